@@ -1,0 +1,172 @@
+-- What the steps of a checked sum find, by signs and magnitudes.
+use Rattle.std.proofs.Common.{◌≡◌, ℕ, suc, zero, ◌+◌, ◌-◌, ◌*◌, ◌/◌, ◌≤◌, ◌<◌, Bool, true, false, cond, not, ◌&&◌, ℤ, pos, negsuc, ◌+ℤ◌, ◌*ℤ◌, neg_ℤ, Option, Some, None, arith, refl, sym, ◌∙◌, ap, ap₂, subst, leb}
+use Rattle.std.proofs.lemmas.Int.{ints, unsigned_abs-mul}
+use Rattle.std.proofs.lemmas.Bool.Decides.{nat_tests}
+use Rattle.std.specs.Prelude.{unsigned_abs}
+use Rattle.bs_frac.specs.Gcd.{gcd}
+use Rattle.bs_frac.specs.Fraction.{Fraction, IsReduced, IsSame, sum_of, signed}
+use Rattle.bs_frac.specs.Checked.{over, largest, is_small, sum_gcd, sum_left, sum_right, sum_top, sum_common, sum_bottom, sum_reduced, checked_sum, cross_gcd, product_top, product_bottom, checked_product}
+use Rattle.bs_frac.proofs.Reduced.{sum_is_reduced, sum_is_same, unsigned_abs-over, quotient_pos}
+use Rattle.bs_frac.specs.Laws.{SumLaw}
+use mathlib.Core.Bool.{beq}
+use Rattle.bs_frac.proofs.GcdLaws.{gcd-left}
+use Rattle.std.proofs.Math.Nat.{zero-div}
+use Rattle.bs_frac.proofs.Ring.{self, nat, plus, minus, times, same, out}
+
+pub unsigned_abs-signed : (s : Bool) (n : ℕ) → unsigned_abs (signed s n) ≡ n
+unsigned_abs-signed true n = omega (arith, ints)
+unsigned_abs-signed false n = refl
+
+pub signed-times : (s : Bool) (n k : ℕ) → signed s n *ℤ pos k ≡ signed s (n * k)
+signed-times true n k = same (times (minus (nat n)) (nat k)) (minus (nat (n * k))) (omega arith)
+signed-times false n k = refl
+
+pub over-signed : (s : Bool) (n k : ℕ) → over (signed s n) k ≡ signed s (n / k)
+over-signed true zero k = rw zero-div refl
+over-signed true (suc n) k = refl
+over-signed false n k = refl
+
+-- one of four tests that fails
+small_false : (n : ℕ) → (n ≤ largest → ⊥) → is_small n ≡ false
+small_false n h = grind (arith, nat_tests)
+
+small_true : (n : ℕ) → n ≤ largest → is_small n ≡ true
+small_true n h = grind (arith, nat_tests)
+
+and-false : (a : Bool) → (a && false) ≡ false
+and-false true = refl
+and-false false = refl
+
+unfoldable pub side : Bool → ℕ → ℕ → Fraction
+side s n d = record { top = signed s n; bottom = d }
+
+module _ (m : Bool) (a b : ℕ) (n : Bool) (c d : ℕ) (g : ℕ) (eg : g ≡ gcd b d) where
+  abbrev x : Fraction
+  x = record { top = signed m a; bottom = b }
+
+  abbrev y : Fraction
+  y = record { top = signed n c; bottom = d }
+
+  left_is : sum_left x y ≡ signed m (a * (d / g))
+  unfolding sum_left sum_gcd
+  left_is = rw (← eg) (signed-times m a (d / g))
+
+  right_is : sum_right x y ≡ signed n (c * (b / g))
+  unfolding sum_right sum_gcd
+  right_is = rw (← eg) (signed-times n c (b / g))
+
+  pub no_left : (a * (d / g) ≤ largest → ⊥) → None ≡ checked_sum x y
+  no_left h =
+      let e : is_small (unsigned_abs (sum_left x y)) ≡ false = ap (λ z. is_small (unsigned_abs z)) left_is ∙ ap is_small (unsigned_abs-signed m (a * (d / g))) ∙ small_false _ h in
+      rw e refl
+
+  pub no_right : (c * (b / g) ≤ largest → ⊥) → None ≡ checked_sum x y
+  no_right h =
+      let e : is_small (unsigned_abs (sum_right x y)) ≡ false = ap (λ z. is_small (unsigned_abs z)) right_is ∙ ap is_small (unsigned_abs-signed n (c * (b / g))) ∙ small_false _ h in
+      simp (e, and-false)
+
+  module _ (s : Bool) (t : ℕ) (et : signed s t ≡ signed m (a * (d / g)) +ℤ signed n (c * (b / g))) where
+    top_is : sum_top x y ≡ signed s t
+    unfolding sum_top
+    top_is = ap₂ (λ (i j : ℤ). i +ℤ j) left_is right_is ∙ sym et
+
+    pub no_top : (t ≤ largest → ⊥) → None ≡ checked_sum x y
+    no_top h =
+        let e : is_small (unsigned_abs (sum_top x y)) ≡ false = ap (λ z. is_small (unsigned_abs z)) top_is ∙ ap is_small (unsigned_abs-signed s t) ∙ small_false _ h in
+        simp (e, and-false)
+
+    module _ (f : ℕ) (ef : f ≡ gcd t g) where
+      common_is : sum_common x y ≡ f
+      unfolding sum_common sum_gcd
+      common_is = ap₂ (λ i j. gcd (unsigned_abs i) j) top_is (sym eg) ∙ ap (λ i. gcd i g) (unsigned_abs-signed s t) ∙ sym ef
+
+      bottom_is : sum_bottom x y ≡ b / g * (d / f)
+      unfolding sum_bottom sum_gcd
+      bottom_is = rw (common_is, ← eg) refl
+
+      pub no_bottom : (b / g * (d / f) ≤ largest → ⊥) → None ≡ checked_sum x y
+      no_bottom h =
+          let e : is_small (sum_bottom x y) ≡ false = ap is_small bottom_is ∙ small_false _ h in
+          simp (e, and-false)
+
+      pub sum_found : a * (d / g) ≤ largest → c * (b / g) ≤ largest → t ≤ largest → b / g * (d / f) ≤ largest
+          → Some (side s (t / f) (b / g * (d / f))) ≡ checked_sum x y
+      unfolding side
+      sum_found h1 h2 h3 h4 =
+          let e1 : is_small (unsigned_abs (sum_left x y)) ≡ true = ap (λ z. is_small (unsigned_abs z)) left_is ∙ ap is_small (unsigned_abs-signed m (a * (d / g))) ∙ small_true _ h1 in
+          let e2 : is_small (unsigned_abs (sum_right x y)) ≡ true = ap (λ z. is_small (unsigned_abs z)) right_is ∙ ap is_small (unsigned_abs-signed n (c * (b / g))) ∙ small_true _ h2 in
+          let e3 : is_small (unsigned_abs (sum_top x y)) ≡ true = ap (λ z. is_small (unsigned_abs z)) top_is ∙ ap is_small (unsigned_abs-signed s t) ∙ small_true _ h3 in
+          let e4 : is_small (sum_bottom x y) ≡ true = ap is_small bottom_is ∙ small_true _ h4 in
+          let e5 : is_small (b / g * (d / f)) ≡ true = small_true _ h4 in
+          let top : over (sum_top x y) (sum_common x y) ≡ signed s (t / f) = ap₂ over top_is common_is ∙ over-signed s t f in
+          simp (e1, e2, e3, top, bottom_is) (rw e5 refl)
+
+      -- what the invariant of the result needs
+      pub coprime_found : IsReduced x → IsReduced y → (0 < b / g * (d / f)) × (gcd (t / f) (b / g * (d / f)) ≡ 1)
+      coprime_found rx ry =
+          let r = sum_is_reduced x y rx ry in
+          let e : unsigned_abs (over (sum_top x y) (sum_common x y)) ≡ t / f = unsigned_abs-over (sum_top x y) (sum_common x y) ∙ ap₂ (λ i j. unsigned_abs i / j) top_is common_is ∙ ap (λ i. i / f) (unsigned_abs-signed s t) in
+          (subst (λ i. 0 < i) bottom_is r.positive, ap₂ gcd (sym e) (sym bottom_is) ∙ r.coprime)
+
+pub reduced_side : (s : Bool) (n d : ℕ) → 0 < d → gcd n d ≡ 1 → IsReduced (record { top = signed s n; bottom = d })
+reduced_side s n d p h = record { positive = p; coprime = rw (unsigned_abs-signed s n) h }
+
+pub quotient_still_pos : (t g : ℕ) → 0 < g → 0 < t → 0 < t / gcd t g
+quotient_still_pos t g h k = quotient_pos t (gcd t g) (gcd-left t g) k
+
+-- ---- products
+signs_times : (m n : Bool) (i j : ℕ) → signed m i *ℤ signed n j ≡ signed (not (beq m n)) (i * j)
+signs_times true true i j = same (times (minus (nat i)) (minus (nat j))) (nat (i * j)) (omega arith)
+signs_times true false i j = same (times (minus (nat i)) (nat j)) (minus (nat (i * j))) (omega arith)
+signs_times false true i j = same (times (nat i) (minus (nat j))) (minus (nat (i * j))) (omega arith)
+signs_times false false i j = refl
+
+module _ (m : Bool) (a b : ℕ) (n : Bool) (c d : ℕ) (g h : ℕ) (eg : g ≡ gcd a d) (eh : h ≡ gcd c b) where
+  abbrev u : Fraction
+  u = record { top = signed m a; bottom = b }
+
+  abbrev v : Fraction
+  v = record { top = signed n c; bottom = d }
+
+  cross_left : cross_gcd u v ≡ g
+  unfolding cross_gcd
+  cross_left = ap (λ i. gcd i d) (unsigned_abs-signed m a) ∙ sym eg
+
+  cross_right : cross_gcd v u ≡ h
+  unfolding cross_gcd
+  cross_right = ap (λ i. gcd i b) (unsigned_abs-signed n c) ∙ sym eh
+
+  product_top_is : product_top u v ≡ signed (not (beq m n)) (a / g * (c / h))
+  unfolding product_top
+  product_top_is = ap₂ (λ i j. over (signed m a) i *ℤ over (signed n c) j) cross_left cross_right
+      ∙ ap₂ (λ (i j : ℤ). i *ℤ j) (over-signed m a g) (over-signed n c h) ∙ signs_times m n (a / g) (c / h)
+
+  product_bottom_is : product_bottom u v ≡ b / h * (d / g)
+  unfolding product_bottom
+  product_bottom_is = ap₂ (λ i j. b / i * (d / j)) cross_right cross_left
+
+  pub no_product : (a / g * (c / h) ≤ largest → ⊥) → None ≡ checked_product u v
+  no_product k =
+      let e : is_small (unsigned_abs (product_top u v)) ≡ false = ap (λ z. is_small (unsigned_abs z)) product_top_is ∙ ap is_small (unsigned_abs-signed (not (beq m n)) (a / g * (c / h))) ∙ small_false _ k in
+      rw e refl
+
+  pub no_product_bottom : (b / h * (d / g) ≤ largest → ⊥) → None ≡ checked_product u v
+  no_product_bottom k =
+      let e : is_small (product_bottom u v) ≡ false = ap is_small product_bottom_is ∙ small_false _ k in
+      simp (e, and-false)
+
+  pub product_found : a / g * (c / h) ≤ largest → b / h * (d / g) ≤ largest → Some (side (not (beq m n)) (a / g * (c / h)) (b / h * (d / g))) ≡ checked_product u v
+  unfolding side
+  product_found k l =
+      let e1 : is_small (unsigned_abs (signed (not (beq m n)) (a / g * (c / h)))) ≡ true = ap is_small (unsigned_abs-signed (not (beq m n)) (a / g * (c / h))) ∙ small_true _ k in
+      let e2 : is_small (b / h * (d / g)) ≡ true = small_true _ l in
+      simp (product_top_is, product_bottom_is) (rw (e1, e2) refl)
+
+by_test : (b : Bool) (v z : Fraction) → cond b (Some v) None ≡ Some z → v ≡ z
+by_test true v z h = cc
+by_test false v z h = cc
+
+pub sum_law : SumLaw
+sum_law x y z rx ry h =
+    let e : sum_reduced x y ≡ z = by_test _ (sum_reduced x y) z h in
+    (subst IsReduced e (sum_is_reduced x y rx ry), subst (λ (v : Fraction). IsSame v (sum_of x y)) e (sum_is_same x y rx ry))

@@ -1,0 +1,118 @@
+-- Sequences and the trees that they describe.
+use Rattle.std.proofs.Common.{◌≡◌, ℕ, suc, zero, ◌+◌, ◌*◌, ◌≤◌, ◌<◌, Bool, true, false, cond, ltb, List, [], ◌∷◌, ◌++◌, length, take, get_or, map, All, refl, ap, ap₂, subst, sym, ◌∙◌, arith, append_assoc, append-nil, length-append, IsPermutation, IsSorted}
+use Rattle.std.proofs.lemmas.Bool.Decides.{nat_tests}
+use Rattle.std.proofs.lemmas.List.{take_more, map-append}
+use Rattle.std.proofs.lemmas.List.Elements.{All-nil, All-cons, All-append, All-weaker}
+use Rattle.std.specs.Ordering.{flip_args}
+use Rattle.bs_tree.specs.Tree.{Forest, none, grow, Tree, nodes, order, trees, forest}
+use Rattle.bs_tree.specs.Canonical.{level_sequence, level_sequence_at}
+use Rattle.bs_tree.specs.Canonical.{sorted, canonical_sequence, sequence_cmp}
+use Rattle.bs_tree.specs.Code.{IsCode, Parsed, parse, tree_of, deeper, all_deeper, joined}
+use Rattle.bs_tree.proofs.Canon.{sorted-sorted}
+use Rattle.bs_tree.specs.declared.TheConstants.{MAX_NODES}
+
+abbrev IsLow : ℕ → List (ℕ × ℕ) → Type 0
+IsLow l [] = Unit {0}
+IsLow l (x ∷ xs) = x.0 < l
+
+low_more : (l : ℕ) (x : List (ℕ × ℕ)) → IsLow l x → IsLow (suc l) x
+low_more l [] h = tt
+low_more l (p ∷ xs) h = omega arith
+
+low_rest : (l : ℕ) (f : Forest) (x : List (ℕ × ℕ)) → IsLow l x → IsLow (suc l) (level_sequence_at l f ++ x)
+low_rest l none x h = low_more l x h
+low_rest l (grow c kids rest) x h = omega arith
+
+below : (m n : ℕ) → m < n → ltb m n ≡ true
+below m n h = grind (arith, nat_tests)
+
+not_below : (n : ℕ) → ltb n n ≡ false
+not_below n = grind (arith, nat_tests)
+
+parse_nothing : (fuel l : ℕ) (x : List (ℕ × ℕ)) → IsLow l x → parse fuel l x ≡ (let r : Parsed = record { found = none; left = x } in r)
+parse_nothing zero l x h = refl
+parse_nothing (suc fuel) l [] h = refl
+parse_nothing (suc fuel) l (p ∷ ps) h = rw (below p.0 l h) refl
+
+pub parse_sequence : (fuel l : ℕ) (f : Forest) (x : List (ℕ × ℕ)) → nodes f ≤ fuel → IsLow l x
+    → parse fuel l (level_sequence_at l f ++ x) ≡ (let r : Parsed = record { found = f; left = x } in r)
+parse_sequence fuel l none x h low = parse_nothing fuel l x low
+parse_sequence zero l (grow c kids rest) x h low = absurd (omega arith)
+parse_sequence (suc fuel) l (grow c kids rest) x h low =
+    let k = parse_sequence fuel (suc l) kids (level_sequence_at l rest ++ x) (omega arith) (low_rest l rest x low) in
+    let r = parse_sequence fuel l rest x (omega arith) low in
+    rw (not_below l, append_assoc (level_sequence_at (suc l) kids) (level_sequence_at l rest) x, k, r) refl
+
+pub length-level_sequence_at : (l : ℕ) (f : Forest) → length (level_sequence_at l f) ≡ nodes f
+length-level_sequence_at l none = refl
+length-level_sequence_at l (grow c kids rest) =
+    omega (arith, length-append (level_sequence_at (suc l) kids) (level_sequence_at l rest), length-level_sequence_at (suc l) kids, length-level_sequence_at l rest)
+
+pub tree_of-level_sequence : (t : Tree) → tree_of (level_sequence t) ≡ t
+tree_of-level_sequence t =
+    let e = parse_sequence (length (level_sequence_at 2 t.below)) 2 t.below [] (omega (arith, length-level_sequence_at 2 t.below)) tt in
+    let e' : parse (length (level_sequence_at 2 t.below)) 2 (level_sequence_at 2 t.below) ≡ (let r : Parsed = record { found = t.below; left = [] } in r) =
+    ap (parse (length (level_sequence_at 2 t.below)) 2) (sym (append-nil (level_sequence_at 2 t.below))) ∙ e in
+    ap (λ (r : Parsed). let u : Tree = record { colour = t.colour; below = r.found } in u) e'
+
+pub canonical_sequence-tree_of : (t : Tree) → canonical_sequence (tree_of (canonical_sequence t)) ≡ canonical_sequence t
+canonical_sequence-tree_of t =
+    let s : Tree = record { colour = t.colour; below = sorted t.below } in
+    ap canonical_sequence (tree_of-level_sequence s) ∙ ap (λ (f : Forest). let u : Tree = record { colour = t.colour; below = f } in level_sequence u) (sorted-sorted t.below)
+
+-- ---- one level deeper
+pub deeper-level_sequence_at : (l : ℕ) (f : Forest) → deeper (level_sequence_at l f) ≡ level_sequence_at (suc l) f
+deeper-level_sequence_at l none = refl
+deeper-level_sequence_at l (grow c kids rest) =
+    ap (λ (ps : List (ℕ × ℕ)). (suc l, c) ∷ ps)
+    (map-append (λ (p : ℕ × ℕ). (suc p.0, p.1)) (level_sequence_at (suc l) kids) (level_sequence_at l rest)
+    ∙ ap₂ (λ (xs ys : List (ℕ × ℕ)). xs ++ ys) (deeper-level_sequence_at (suc l) kids) (deeper-level_sequence_at l rest))
+
+abbrev pub sequences : Forest → List (List (ℕ × ℕ))
+sequences f = map level_sequence (trees f)
+
+pub all_deeper-sequences : (f : Forest) → all_deeper (sequences f) ≡ level_sequence_at 2 f
+all_deeper-sequences none = refl
+all_deeper-sequences (grow c kids rest) =
+    ap (λ (ps : List (ℕ × ℕ)). (2, c) ∷ ps) (ap₂ (λ (xs ys : List (ℕ × ℕ)). xs ++ ys) (deeper-level_sequence_at 2 kids) (all_deeper-sequences rest))
+
+pub joined-sequences : (t : Tree) → joined t.colour (sequences (sorted t.below)) ≡ canonical_sequence t
+joined-sequences t = ap (λ (ps : List (ℕ × ℕ)). (1, t.colour) ∷ ps) (all_deeper-sequences (sorted t.below))
+
+-- ---- the loop that joins
+pub all_deeper-append : (xs ys : List (List (ℕ × ℕ))) → all_deeper (xs ++ ys) ≡ all_deeper xs ++ all_deeper ys
+all_deeper-append [] ys = refl
+all_deeper-append (x ∷ xs) ys = ap (λ (ps : List (ℕ × ℕ)). deeper x ++ ps) (all_deeper-append xs ys) ∙ sym (append_assoc (deeper x) (all_deeper xs) (all_deeper ys))
+
+pub joined_more : (c : ℕ) (cs : List (List (ℕ × ℕ))) (i : ℕ) (d : List (ℕ × ℕ)) → i < length cs → joined c (take (i + 1) cs) ≡ joined c (take i cs) ++ deeper (get_or cs i d)
+joined_more c cs i d h = ap (λ (ps : List (ℕ × ℕ)). (1, c) ∷ ps)
+    (ap all_deeper (take_more cs i d h) ∙ all_deeper-append (take i cs) (get_or cs i d ∷ []) ∙ ap (λ (ps : List (ℕ × ℕ)). all_deeper (take i cs) ++ ps) (append-nil (deeper (get_or cs i d))))
+
+-- ---- levels
+pub level_bound : (l n : ℕ) (f : Forest) → l + nodes f ≤ n → All (λ (p : ℕ × ℕ). p.0 < n) (level_sequence_at l f)
+level_bound l n none h = All-nil (λ (p : ℕ × ℕ). p.0 < n)
+level_bound l n (grow c kids rest) h =
+    let P : ℕ × ℕ → Type 0 = λ p. p.0 < n in
+    All-cons P (l, c) (level_sequence_at (suc l) kids ++ level_sequence_at l rest) (omega arith)
+    (All-append P (level_sequence_at (suc l) kids) (level_sequence_at l rest) (level_bound (suc l) n kids (omega arith)) (level_bound l n rest (omega arith)))
+
+pub code_levels : (s : List (ℕ × ℕ)) → IsCode s → All (λ (p : ℕ × ℕ). p.0 < MAX_NODES + 2) s
+code_levels s h =
+    let t = tree_of s in
+    let P : List (ℕ × ℕ) → Type 0 = λ ps. All (λ (p : ℕ × ℕ). p.0 < MAX_NODES + 2) ps in
+    let size : length s ≡ suc (nodes (sorted t.below)) = ap length (sym h.canonical) ∙ ap suc (length-level_sequence_at 2 (sorted t.below)) in
+    subst P h.canonical
+    (All-cons (λ (p : ℕ × ℕ). p.0 < MAX_NODES + 2) (1, t.colour) (level_sequence_at 2 (sorted t.below)) (omega arith)
+    (level_bound 2 (MAX_NODES + 2) (sorted t.below) (omega (arith, h.small))))
+
+length-deeper : (ps : List (ℕ × ℕ)) → length (deeper ps) ≡ length ps
+length-deeper [] = refl
+length-deeper (p ∷ ps) = ap suc (length-deeper ps)
+
+-- a part that is joined
+pub length-joined_more : (c : ℕ) (cs : List (List (ℕ × ℕ))) (i : ℕ) (d : List (ℕ × ℕ)) → i < length cs → length (joined c (take i cs)) + length (get_or cs i d) ≤ length (joined c cs)
+length-joined_more c [] i d h = absurd (omega arith)
+length-joined_more c (x ∷ xs) zero d h =
+    omega (arith, length-append (deeper x) (all_deeper xs), length-deeper x)
+length-joined_more c (x ∷ xs) (suc i) d h =
+    omega (arith, length-joined_more c xs i d (omega arith), length-append (deeper x) (all_deeper xs), length-append (deeper x) (all_deeper (take i xs)))

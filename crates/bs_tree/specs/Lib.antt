@@ -1,0 +1,9 @@
+pub mod Tree
+pub mod TreeCode
+pub mod Isomorphic
+pub mod Canonical
+pub mod Code
+pub mod CodeBack
+pub mod OrderLaws
+pub mod CodeLaws
+pub mod Numbers

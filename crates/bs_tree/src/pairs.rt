@@ -1,0 +1,65 @@
+ghost use Rattle.std.specs.Prelude.{◌≡◌, ℕ, ◌+◌, ◌<◌, ◌≤◌, ◌++◌, [], ◌∷◌, length, map, All};
+ghost use Rattle.bs_tree.specs.Code.{deeper};
+
+use crate::MAX_NODES;
+use std::marker::Model;
+
+/// At most MAX_NODES pairs, in place.
+#[derive(Clone, Copy)]
+pub struct Pairs {
+    len: usize,
+    nodes: [(u8, u8); MAX_NODES],
+}
+
+impl Model for Pairs {
+    ghost use Rattle.std.specs.Prelude.{◌≡◌, ℕ, List, ◌-◌, ◌<◌, ◌≤◌, ◌++◌, take, drop, length, replicate};
+    ghost use Rattle.bs_tree.specs.CodeBack.{padded_back};
+    ghost use Rattle.bs_tree.specs.declared.TheConstants.{MAX_NODES};
+
+    ghost Value = { List (ℕ × ℕ) };
+
+    ghost view = { λ a. take a.len a.nodes };
+
+    ghost invariant = { λ a. (length a.nodes ≡ MAX_NODES) × (a.len ≤ MAX_NODES) × (drop a.len a.nodes ≡ replicate (MAX_NODES - a.len) (0, 0)) };
+
+    ghost inverse = { λ v. record { len = length v; nodes = v ++ replicate (MAX_NODES - length v) (0, 0) } };
+
+    ghost inverse_ok = { λ a h. padded_back a.len a.nodes h.0 h.1 h.2 };
+}
+
+impl Pairs {
+    pub fn new() -> Pairs
+        ensures { result ≡ [] }
+    {
+        Pairs {
+            len: 0,
+            nodes: [(0, 0); MAX_NODES],
+        }
+    }
+
+    pub fn push(&mut self, pair: (u8, u8))
+        requires { length self.old < MAX_NODES }
+        ensures { self.new ≡ self.old ++ pair ∷ [] }
+    {
+        self.nodes[self.len] = pair;
+        self.len += 1;
+    }
+
+    pub fn as_slice(&self) -> &[(u8, u8)]
+        ensures value { result.now ≡ self.now }
+        ensures small { length result.now ≤ MAX_NODES }
+    {
+        &self.nodes[..self.len]
+    }
+
+    /// Appends the pairs, each one level deeper.
+    pub fn push_deeper(&mut self, pairs: &[(u8, u8)])
+        requires room { length self.old + length pairs.now ≤ MAX_NODES }
+        requires levels { All (λ p. p.0 < 255) pairs.now }
+        ensures { self.new ≡ self.old ++ deeper pairs.now }
+    {
+        'pairs: for pair in pairs {
+            self.push((pair.0 + 1, pair.1));
+        }
+    }
+}
