@@ -1,6 +1,6 @@
-use Rattle.std.proofs.Common.{◌≡◌, ◌++◌, take, drop, length, refl, arith, ◌∙◌}
+use Rattle.std.proofs.Common.{◌++◌, take, ◌∙◌}
 use Rattle.bs_io.proofs.Joins.{Adds-more, front-more}
-use Rattle.bs_io.proofs.write_all.Goals as goal
+use Rattle.bs_io.proofs.sink.write_all.Goals as goal
 
 pub loop-rest-preserved : goal.loop-rest-preserved
 loop-rest-preserved g c =

@@ -1,6 +1,6 @@
 use Rattle.std.proofs.Common.{◌≡◌, ◌+◌, ◌-◌, ◌≤◌, vec_len, length}
 use Rattle.bs_io.specs.Outside.{Leaves}
-use Rattle.bs_io.proofs.read_all.Given as goal
+use Rattle.bs_io.proofs.source.read_all.Given as goal
 
 abbrev pub invariant-reads : goal.invariant-reads
 invariant-reads g l = record {
