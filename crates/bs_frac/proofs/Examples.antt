@@ -1,7 +1,7 @@
 use Rattle.std.proofs.Common.{◌≡◌, ℕ, ℤ, pos, negsuc, refl, Some, None}
 use Rattle.bs_frac.specs.Gcd.{gcd}
 use Rattle.bs_frac.specs.Fraction.{Fraction}
-use Rattle.bs_frac.specs.Checked.{checked_sum, checked_product, sum_gcd, sum_left, sum_right, sum_top, sum_common, sum_bottom, sum_reduced, cross_gcd, product_top, product_bottom}
+use Rattle.bs_frac.specs.Checked.{checked_sum, checked_product, sum_gcd, sum_left, sum_right, sum_top, sum_common, sum_bottom, cross_gcd, product_top, product_bottom}
 
 abbrev frac : ℤ → ℕ → Fraction
 frac n d = record { top = n; bottom = d }

@@ -1,10 +1,10 @@
 -- Laws of the greatest common divisor.
 use Rattle.std.proofs.Common.{◌≡◌, ℕ, suc, zero, ◌+◌, ◌*◌, ◌/◌, ◌%◌, ◌≤◌, ◌<◌, arith, refl, sym, ◌∙◌, ap, ap₂, subst, mul-zero, mul-one, mul_comm}
-use Rattle.std.proofs.Math.Nat.{mod-lt, pos_of_dvd_of_pos, dvd-mul_left, div-add-mod', mul-lt-mul_of_pos_left, zero-mul, zero-mod, eq-one_of_dvd-one, mul-div_cancel', eq_of_mul-eq-mul_left}
+use Rattle.std.proofs.Math.Nat.{mod-lt, pos_of_dvd_of_pos, dvd-mul_left, div-add-mod', mul-lt-mul_of_pos_left, zero-mul, eq-one_of_dvd-one, mul-div_cancel', eq_of_mul-eq-mul_left}
 use Prim.Native.Nat.{◌∣◌}
 use Rattle.std.proofs.lemmas.Nat.{mod-mul-add}
 use Rattle.std.specs.Int.{IsGcd}
-use Rattle.std.proofs.lemmas.Nat.Gcd.{IsGcd-from_zero, IsGcd-from_mod, same_from_IsGcd, IsGcd-swap, dvd_trans}
+use Rattle.std.proofs.lemmas.Nat.Gcd.{IsGcd-from_zero, IsGcd-from_mod, same_from_IsGcd, IsGcd-swap, dvd_trans, dvd_refl, dvd_antisymm, le_of_dvd}
 use Rattle.bs_frac.specs.Gcd.{gcd, gcd_within}
 
 -- with enough fuel, Euclid's steps reach the greatest common divisor
@@ -83,6 +83,15 @@ one_from_dvd a b h = eq-one_of_dvd-one h
 pub gcd-one_of_dvd : (a b c : ℕ) → gcd a b ≡ 1 → c ∣ a → gcd c b ≡ 1
 gcd-one_of_dvd a b c h k =
     one_from_dvd c b (subst (λ n. gcd c b ∣ n) h (gcd-greatest a b (gcd c b) (dvd_trans _ (gcd-left c b) k) (gcd-right c b)))
+
+pub gcd-one : (b : ℕ) → gcd 1 b ≡ 1
+gcd-one b = eq-one_of_dvd-one (gcd-left 1 b)
+
+pub gcd-same : (a : ℕ) → gcd a a ≡ a
+gcd-same a = dvd_antisymm (gcd-left a a) (gcd-greatest a a a (dvd_refl a) (dvd_refl a))
+
+pub gcd-le : (a b : ℕ) → 0 < a → gcd a b ≤ a
+gcd-le a b h = le_of_dvd h (gcd-left a b)
 
 pub gcd-product : (a b c : ℕ) → gcd a c ≡ 1 → gcd b c ≡ 1 → gcd (a * b) c ≡ 1
 gcd-product a b c h k =

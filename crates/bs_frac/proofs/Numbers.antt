@@ -1,5 +1,5 @@
 -- Reading a number.
-use Rattle.std.proofs.Common.{◌≡◌, ℕ, suc, zero, ◌+◌, ◌-◌, ◌*◌, ◌≤◌, ◌<◌, Bool, true, false, cond, ◌&&◌, ◌||◌, not, List, [], ◌∷◌, Option, Some, None, take, get_or, length, leb, ltb, arith, rules, refl, sym, ◌∙◌, ap, ap₂, subst, ◌⊎◌, inl, inr}
+use Rattle.std.proofs.Common.{◌≡◌, ℕ, ◌+◌, ◌-◌, ◌*◌, ◌≤◌, ◌<◌, Bool, true, false, ◌&&◌, List, Some, None, take, get_or, length, leb, ltb, arith, refl, sym, ◌∙◌, ap, ap₂, subst, ◌⊎◌, inl, inr}
 use Rattle.std.proofs.lemmas.Bool.Decides.{nat_tests}
 use Rattle.std.specs.Str.{all_ascii_digits}
 use Rattle.std.specs.Str.Parse.{digits_value, AllDigits}
@@ -11,14 +11,14 @@ use Rattle.std.proofs.lemmas.List.{take_all}
 use Rattle.std.proofs.lemmas.Str.{digit_value_digit}
 use Rattle.bs_frac.specs.Text.{is_number, number_within, has_number_start}
 
-own : IsNumeralModel (λ ds. all_ascii_digits ds ≡ true) (digits_value 10)
+pub own : IsNumeralModel (λ ds. all_ascii_digits ds ≡ true) (digits_value 10)
 own = numerals_by_value _ tells_all_ascii_digits
 
-and_both : (a b : Bool) → (a && b) ≡ true → (a ≡ true) × (b ≡ true)
+pub and_both : (a b : Bool) → (a && b) ≡ true → (a ≡ true) × (b ≡ true)
 and_both true b h = (refl, h)
 and_both false b h = cc
 
-by_cases : {G : Type 0} (b : Bool) → (b ≡ true → G) → (b ≡ false → G) → G
+pub by_cases : {G : Type 0} (b : Bool) → (b ≡ true → G) → (b ≡ false → G) → G
 by_cases true p q = p refl
 by_cases false p q = q refl
 
@@ -88,3 +88,11 @@ read_done limit value w start r =
 pub no_start : (limit : ℕ) (w : List ℕ) → has_number_start w ≡ false → None ≡ number_within limit w
 unfolding number_within
 no_start limit w h = rw h refl
+
+pub read_limit : (limit value : ℕ) (w : List ℕ) → has_number_start w ≡ true → IsRead limit value w (length w) → value ≤ limit
+read_limit limit value w start r =
+    let some : 0 < length w = lt_of (and_both (ltb 0 (length w)) _ start).0 in
+    elim r.fits [ inl h ↦ h | inr h ↦ absurd (omega arith) ]
+  where
+    lt_of : ltb 0 (length w) ≡ true → 0 < length w
+    lt_of h = grind (arith, nat_tests)

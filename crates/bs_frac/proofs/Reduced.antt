@@ -1,16 +1,16 @@
 -- The checked operations give the reduced pair of the sum and of the product.
-use Rattle.std.proofs.Common.{◌≡◌, ℕ, suc, zero, ◌+◌, ◌-◌, ◌*◌, ◌/◌, ◌%◌, ◌≤◌, ◌<◌, ◌⊎◌, ℤ, pos, negsuc, ◌+ℤ◌, ◌*ℤ◌, neg_ℤ, nat_abs, arith, refl, sym, ◌∙◌, ap, ap₂, subst, mul-zero, mul-one, mul_comm, mul_assoc, inl, inr}
-use Rattle.std.proofs.Math.Nat.{dvd-mul_left, dvd-mul_right, dvd-add, dvd-sub, mul-div_cancel', div-mul_cancel, eq_of_mul-eq-mul_left, mul-pos, dvd-mul_left_of_dvd, dvd-mul_right_of_dvd, pos_of_dvd_of_pos, eq-one_of_dvd-one, div-eq_of_eq-mul_left}
+use Rattle.std.proofs.Common.{◌≡◌, ℕ, suc, ◌+◌, ◌-◌, ◌*◌, ◌/◌, ◌≤◌, ◌<◌, ◌⊎◌, ℤ, pos, negsuc, ◌+ℤ◌, ◌*ℤ◌, arith, refl, sym, ◌∙◌, ap, ap₂, subst, inl, inr}
+use Rattle.std.proofs.Math.Nat.{dvd-mul_left, dvd-mul_right, dvd-add, dvd-sub, div-mul_cancel, mul-pos, dvd-mul_left_of_dvd, eq-one_of_dvd-one, div-eq_of_eq-mul_left}
 use Prim.Native.Nat.{◌∣◌}
 use Rattle.std.proofs.lemmas.Int.{ints, unsigned_abs-mul}
 use Rattle.std.proofs.lemmas.Nat.Gcd.{dvd_trans, dvd_refl}
 use Rattle.std.proofs.lemmas.Bool.{cases_lt}
 use Rattle.std.specs.Prelude.{unsigned_abs}
 use Rattle.bs_frac.specs.Gcd.{gcd}
-use Rattle.bs_frac.specs.Fraction.{Fraction, IsSame, IsReduced, sum_of, product_of}
-use Rattle.bs_frac.specs.Checked.{over, sum_gcd, sum_left, sum_right, sum_top, sum_common, sum_bottom, sum_reduced, cross_gcd, product_top, product_bottom, product_reduced}
-use Rattle.bs_frac.proofs.GcdLaws.{gcd-left, gcd-right, gcd-greatest, gcd-swap, gcd-pos, gcd-mul, dvd_other, gcd-one_of_dvd, gcd-product, gcd-quotients}
-use Rattle.bs_frac.proofs.Ring.{self, nat, plus, minus, times, same, out}
+use Rattle.bs_frac.specs.Fraction.{Fraction, IsSame, IsReduced, sum_of}
+use Rattle.bs_frac.specs.Checked.{over, sum_gcd, sum_left, sum_right, sum_top, sum_common, sum_bottom, sum_reduced}
+use Rattle.bs_frac.proofs.GcdLaws.{gcd-left, gcd-right, gcd-greatest, gcd-swap, gcd-pos, dvd_other, gcd-one_of_dvd, gcd-product, gcd-quotients}
+use Rattle.bs_frac.proofs.Ring.{self, nat, plus, minus, times, same}
 
 -- ---- divisors of a sum of whole numbers
 abs_cases : (x y : ℤ) → (unsigned_abs x ≡ unsigned_abs (x +ℤ y) + unsigned_abs y) ⊎ ((unsigned_abs x ≡ unsigned_abs (x +ℤ y) - unsigned_abs y) ⊎ (unsigned_abs x ≡ unsigned_abs y - unsigned_abs (x +ℤ y)))

@@ -1,6 +1,5 @@
 -- Laws of whole numbers: each is read as a difference of two natural numbers, and `omega` multiplies products out.
-use Rattle.std.proofs.Common.{◌≡◌, ℕ, suc, zero, ◌+◌, ◌*◌, ℤ, pos, negsuc, ◌+ℤ◌, ◌-ℤ◌, ◌*ℤ◌, neg_ℤ, arith, refl, ap}
-use Rattle.std.proofs.lemmas.Int.{ints}
+use Rattle.std.proofs.Common.{◌≡◌, ℕ, ◌+◌, ◌*◌, ℤ, pos, ◌+ℤ◌, ◌*ℤ◌, neg_ℤ, arith, refl, ap}
 use borrow.Author.Differences.{up, down, sum_is_lem, neg_is, product_is, same_in}
 
 -- z is p - q

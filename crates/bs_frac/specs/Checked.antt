@@ -1,24 +1,37 @@
 -- The checked operations on reduced fractions: the reduced result, or None where a number on the way is too large.
 --
---   largest                == M, the largest magnitude of a numerator and of a denominator
---   checked_sum x y        == with g = gcd(b, d), p = a(d/g), q = c(b/g), s = p + q, h = gcd(s, g):
---                             (s/h) / ((b/g)(d/h)); None exactly where |p|, |q|, |s| or the denominator exceeds M
---   checked_product x y    == with g1 = gcd(a, d), g2 = gcd(c, b): (a/g1)(c/g2) / ((b/g2)(d/g1));
---                             None exactly where one of the two products exceeds M
+--   largest                  == M, the largest magnitude of a numerator and of a denominator
+--   IsWithin x               == neither magnitude of x exceeds it
+--   checked_sum x y          == with g = gcd(b, d), p = a(d/g), q = c(b/g), s = p + q, h = gcd(s, g):
+--                               (s/h) / ((b/g)(d/h)); None exactly where |p|, |q|, |s| or the denominator exceeds M
+--   SumFits x y              == none of those four does
+--   checked_product x y      == with g1 = gcd(a, d), g2 = gcd(c, b): (a/g1)(c/g2) / ((b/g2)(d/g1));
+--                               None exactly where one of the two products exceeds M
+--   ProductFits x y          == neither of those two does
+--   checked_difference x y   == the checked sum with the second numerator negated
+--   checked_quotient x y     == the checked product with the reciprocal
+--   checked_fraction s n d   == the reduced fraction of a sign and two magnitudes; None where a reduced magnitude exceeds M
 --
 -- Source: Knuth (1998), The Art of Computer Programming 2, 4.5.1; the bound M and its places are this project's own.
-use Rattle.std.specs.Prelude.{◌≡◌, ℕ, zero, suc, ◌+◌, ◌-◌, ◌*◌, ◌/◌, ◌≤◌, ◌<◌, ◌&&◌, Bool, true, false, cond, ℤ, pos, negsuc, ◌+ℤ◌, ◌*ℤ◌, neg_ℤ, unsigned_abs, nat_le, Option, Some, None}
+-- The code has shorter ways for zero and for numbers of 64 bits, and finds the gcd by shifts and differences.
+use Rattle.std.specs.Prelude.{ℕ, suc, ◌*◌, ◌/◌, ◌≤◌, ◌&&◌, Bool, cond, ℤ, pos, negsuc, ◌+ℤ◌, ◌*ℤ◌, neg_ℤ, unsigned_abs, nat_le, Option, Some, None}
+use Rattle.bs_frac.specs.declared.frac.TheConstants.{M}
 use Rattle.bs_frac.specs.Gcd.{gcd}
-use Rattle.bs_frac.specs.Fraction.{Fraction, signed}
+use Rattle.bs_frac.specs.Fraction.{Fraction, opposite_of, reciprocal_of, signed}
 
 -- the quotient of a whole number by a natural number that divides it
 abbrev pub over : ℤ → ℕ → ℤ
 over (pos n) k = pos (n / k)
 over (negsuc n) k = neg_ℤ (pos (suc n / k))
 
--- the largest magnitude
+-- the largest magnitude, named once in the code
 abbrev pub largest : ℕ
-largest = 170141183460469231731687303715884105727
+largest = M
+
+-- neither magnitude exceeds the largest
+pub record IsWithin (x : Fraction) : Type 0 where
+  pub top : unsigned_abs x.top ≤ largest
+  pub bottom : x.bottom ≤ largest
 
 -- ---- the checked sum of a/b and c/d
 unfoldable pub sum_gcd : Fraction → Fraction → ℕ
@@ -68,6 +81,11 @@ product_top x y = over x.top (cross_gcd x y) *ℤ over y.top (cross_gcd y x)
 unfoldable pub product_bottom : Fraction → Fraction → ℕ
 product_bottom x y = x.bottom / cross_gcd y x * (y.bottom / cross_gcd x y)
 
+-- neither of the result's two numbers exceeds the largest
+pub record ProductFits (x y : Fraction) : Type 0 where
+  pub top : unsigned_abs (product_top x y) ≤ largest
+  pub bottom : product_bottom x y ≤ largest
+
 abbrev pub product_reduced : Fraction → Fraction → Fraction
 product_reduced x y = record { top = product_top x y; bottom = product_bottom x y }
 
@@ -79,3 +97,10 @@ checked_product x y =
 abbrev pub checked_fraction : Bool → ℕ → ℕ → Option Fraction
 checked_fraction negative num den =
     cond (is_small (num / gcd num den) && is_small (den / gcd num den)) (Some (record { top = signed negative (num / gcd num den); bottom = den / gcd num den })) None
+
+-- ---- the checked difference and quotient
+abbrev pub checked_difference : Fraction → Fraction → Option Fraction
+checked_difference x y = checked_sum x (opposite_of y)
+
+abbrev pub checked_quotient : Fraction → Fraction → Option Fraction
+checked_quotient x y = checked_product x (reciprocal_of y)

@@ -3,5 +3,6 @@ pub mod Fraction
 pub mod Checked
 pub mod Views
 pub mod Text
-pub mod Coefs
+pub mod Written
 pub mod Laws
+pub mod WrittenLaws

@@ -1,5 +1,11 @@
 -- The sign and the magnitude of a whole number, and that they give it back.
-use Rattle.std.specs.Prelude.{◌≡◌, ℕ, suc, zero, ◌<◌, ◌≤◌, Bool, true, false, ℤ, pos, negsuc, neg_ℤ, refl}
+--
+--   magnitude z   == |z|
+--   is_below z    == z is below 0
+--   signed_back   == the fields of a Frac are the sign, the magnitude and the denominator of what contracts see
+--
+-- Source: this project.
+use Rattle.std.specs.Prelude.{◌≡◌, ℕ, suc, zero, ◌<◌, Bool, true, false, ℤ, pos, negsuc, refl}
 use Rattle.std.proofs.Common.{arith}
 use Rattle.bs_frac.specs.Fraction.{signed}
 use Rattle.bs_frac.specs.declared.frac.Frac.TheInside.{Inside}

@@ -1,8 +1,56 @@
-ghost use Rattle.std.specs.Prelude.{◌≡◌, ◌+◌, ◌-◌, ◌*◌, ◌≤◌, ◌<◌, ◌==◌, SomeIff, IfSome, position, option_map, length};
+//! Reading numbers and fractions from the bytes of a word.
+ghost use Rattle.std.specs.Prelude.{◌≡◌, ◌+◌, ◌-◌, ◌*◌, ◌≤◌, ◌<◌, ◌==◌, IsTrue, SomeIff, IfSome, IfOk, position, option_map, length};
 ghost use Rattle.std.specs.Int.{IsInRange};
-ghost use Rattle.bs_frac.specs.Text.{number_within, has_number_start, magnitudes_of, both};
+ghost use Rattle.std.specs.Option.{ForSome};
+ghost use Rattle.std.specs.Result.{result_ok};
+ghost use Rattle.bs_frac.specs.Fraction.{IsReduced};
+ghost use Rattle.bs_frac.specs.Checked.{largest, IsWithin};
+ghost use Rattle.bs_frac.specs.Text.{number_within, has_number_start, magnitudes_of, both, fraction_of, reduced_of, signed_pair, starts_with_minus};
 
-use crate::frac::M;
+use crate::frac::{Frac, M};
+
+/// The word is not a fraction, or one of its numbers exceeds `M`.
+#[derive(Clone, Copy, PartialEq, Eq, Debug)]
+pub struct BadFraction;
+
+impl Frac {
+    /// The fraction that a word writes, reduced: an optional `-`, a number, and optionally `/` and a
+    /// number that is not 0. A number is `0`, or a digit 1 to 9 and any digits, and at most `M`.
+    pub fn read(word: &[u8]) -> Result<Frac, BadFraction>
+        ensures value { result_ok result ≡ fraction_of word.now }
+        ensures reduced { IfOk result (λ z. IsReduced z) }
+        ensures within { IfOk result (λ z. IsWithin z) }
+    {
+        if starts_with_minus(word) {
+            reduced(true, magnitudes(&word[1..]))
+        } else {
+            reduced(false, magnitudes(word))
+        }
+    }
+}
+
+fn starts_with_minus(word: &[u8]) -> bool
+    ensures minus { result ≡ starts_with_minus word.now }
+    ensures some { IsTrue result → 0 < length word.now }
+{
+    !word.is_empty() && word[0] == b'-'
+}
+
+/// The reduced fraction of a sign and two magnitudes, where there are some.
+fn reduced(negative: bool, parts: Option<(u128, u128)>) -> Result<Frac, BadFraction>
+    requires { ForSome parts (λ p. (p.0 ≤ largest) × (p.1 ≤ largest) × (0 < p.1)) }
+    ensures value { result_ok result ≡ option_map reduced_of (option_map (signed_pair negative) parts) }
+    ensures reduced { IfOk result (λ z. IsReduced z) }
+    ensures within { IfOk result (λ z. IsWithin z) }
+{
+    let Some((num, den)) = parts else {
+        return Err(BadFraction);
+    };
+    match Frac::new(negative, num, den) {
+        Ok(value) => Ok(value),
+        Err(_) => Err(BadFraction),
+    }
+}
 
 /// The value followed by one more digit, where the byte is a digit and the limit is kept.
 fn with_digit(value: u128, byte: u8, limit: u128) -> Option<u128>
@@ -27,9 +75,11 @@ fn starts_well(word: &[u8]) -> bool
     !word.is_empty() && (word[0] != b'0' || word.len() <= 1)
 }
 
-/// A number written without a leading zero and at most `limit`, or None.
-pub fn read_number(word: &[u8], limit: u128) -> Option<u128>
-    ensures { result ≡ number_within limit word.now }
+/// The number that the word writes, of any length, without a leading zero; None where it exceeds the
+/// limit or the word is no number.
+pub fn number_within(word: &[u8], limit: u128) -> Option<u128>
+    ensures value { result ≡ number_within limit word.now }
+    ensures limit { ForSome result (λ n. n ≤ limit) }
 {
     if !starts_well(word) {
         return None;
@@ -54,7 +104,9 @@ fn slash_at(word: &[u8]) -> Option<usize>
 
 /// A numerator over 1.
 fn whole(num: Option<u128>) -> Option<(u128, u128)>
-    ensures { result ≡ option_map (λ n. (n, 1)) num }
+    requires { ForSome num (λ n. n ≤ largest) }
+    ensures value { result ≡ option_map (λ n. (n, 1)) num }
+    ensures limit { ForSome result (λ p. (p.0 ≤ largest) × (p.1 ≤ largest) × (0 < p.1)) }
 {
     match num {
         None => None,
@@ -64,7 +116,10 @@ fn whole(num: Option<u128>) -> Option<(u128, u128)>
 
 /// Both numbers, where the second is not 0.
 fn both_of(num: Option<u128>, den: Option<u128>) -> Option<(u128, u128)>
-    ensures { result ≡ both num den }
+    requires num { ForSome num (λ n. n ≤ largest) }
+    requires den { ForSome den (λ d. d ≤ largest) }
+    ensures value { result ≡ both num den }
+    ensures limit { ForSome result (λ p. (p.0 ≤ largest) × (p.1 ≤ largest) × (0 < p.1)) }
 {
     match (num, den) {
         (Some(_), Some(0)) => None,
@@ -74,14 +129,15 @@ fn both_of(num: Option<u128>, den: Option<u128>) -> Option<(u128, u128)>
 }
 
 /// A NUMBER, or two with a slash between them of which the second is not 0.
-pub fn read_magnitudes(word: &[u8]) -> Option<(u128, u128)>
-    ensures { result ≡ magnitudes_of word.now }
+fn magnitudes(word: &[u8]) -> Option<(u128, u128)>
+    ensures value { result ≡ magnitudes_of word.now }
+    ensures limit { ForSome result (λ p. (p.0 ≤ largest) × (p.1 ≤ largest) × (0 < p.1)) }
 {
     match slash_at(word) {
-        None => whole(read_number(word, M)),
+        None => whole(number_within(word, M)),
         Some(slash) => both_of(
-            read_number(&word[..slash], M),
-            read_number(&word[slash + 1..], M),
+            number_within(&word[..slash], M),
+            number_within(&word[slash + 1..], M),
         ),
     }
 }

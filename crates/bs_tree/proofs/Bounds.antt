@@ -1,18 +1,19 @@
--- The symmetry and the density of a tree of at most 16 nodes are below 2^64.
-use Rattle.std.proofs.Common.{◌≡◌, ℕ, suc, zero, ◌+◌, ◌-◌, ◌*◌, ◌^◌, ◌≤◌, ◌<◌, Bool, true, false, cond, List, [], ◌∷◌, length, drop, map, get_or, count_by, slice_get, IfSome, Option, option_map, Some, None, refl, ap, ap₂, subst, sym, ◌∙◌, arith, mul-pos, mul-one, one-mul, mul-le-mul_left, mul-le-mul_right}
+-- The symmetry, the density and alpha of a tree of at most MAX_NODES nodes, and products on the way to them.
+use Rattle.std.proofs.Common.{◌≡◌, ℕ, suc, zero, ◌+◌, ◌-◌, ◌*◌, ◌^◌, ◌≤◌, ◌<◌, Bool, true, false, cond, List, [], ◌∷◌, length, drop, map, get_or, count_by, slice_get, IfSome, Option, option_map, Some, refl, ap, ap₂, subst, sym, ◌∙◌, arith, mul-pos}
 use Rattle.std.proofs.lemmas.List.{drop_more, drop-map}
 use Rattle.std.proofs.lemmas.List.Recursion.{is_count_by}
 use Rattle.std.proofs.lemmas.Option.{slice_get-map, slice_get_read}
 use Rattle.std.specs.Ordering.{is_eq}
-use Rattle.bs_tree.specs.Tree.{Forest, none, grow, Tree, nodes, order, trees, forest}
+use Rattle.std.proofs.Math.Nat.{div-eq_of_eq-mul_left}
+use Rattle.bs_tree.specs.Tree.{Forest, none, grow, Tree, order, forest}
 use Rattle.bs_tree.specs.Canonical.{sequence_cmp, canonical_sequence}
 use Rattle.bs_tree.specs.Isomorphic.{isomorphic}
-use Rattle.bs_tree.specs.Numbers.{factorial, symmetry_of, density_of, symmetry, density, count_alike}
+use Rattle.bs_tree.specs.Numbers.{factorial, symmetry_of, density_of, symmetry, density, alpha, count_alike}
 use Rattle.bs_tree.proofs.Divides.{symmetry_density_divides, iso_flip}
 use Rattle.bs_tree.proofs.CodeOf.{codes_equal}
 use Rattle.bs_tree.specs.declared.TheConstants.{MAX_NODES}
 
-factorial_pos : (n : ℕ) → 0 < factorial n
+pub factorial_pos : (n : ℕ) → 0 < factorial n
 factorial_pos zero = omega arith
 factorial_pos (suc n) = mul-pos (omega arith) (factorial_pos n)
 
@@ -36,18 +37,54 @@ pub density_pos : (f : Forest) → 0 < density_of f
 density_pos none = omega arith
 density_pos (grow c kids rest) = mul-pos (mul-pos (omega arith) (density_pos kids)) (density_pos rest)
 
+pub tree_density_pos : (t : Tree) → 0 < density t
+tree_density_pos t = mul-pos (omega arith) (density_pos t.below)
+
+-- a factor of what is positive
+pub factor_pos : (p r total : ℕ) → 0 < total → p * r ≡ total → 0 < p
+factor_pos zero r total h e = absurd (let z : total ≡ 0 = sym e ∙ omega arith in omega arith)
+factor_pos (suc p) r total h e = omega arith
+
 factor_le : (F q s d : ℕ) → 0 < F → 0 < s → 0 < d → F ≡ q * (s * d) → (s ≤ F) × (d ≤ F)
 factor_le F zero s d h a b e = absurd (let z : F ≡ 0 = e ∙ omega arith in omega arith)
 factor_le F (suc q) (suc s) (suc d) h a b e = (let z : F ≡ suc q * (suc s * suc d) = e in omega arith, let z : F ≡ suc q * (suc s * suc d) = e in omega arith)
 factor_le F (suc q) zero d h a b e = absurd (omega arith)
 factor_le F (suc q) (suc s) zero h a b e = absurd (omega arith)
 
+pub factorial_fits : (n : ℕ) → n ≤ MAX_NODES → factorial n < 2 ^ 64
+factorial_fits n h =
+    let most : factorial MAX_NODES < 2 ^ 64 = omega arith in
+    omega (arith, factorial_upto n MAX_NODES h)
+
 pub small_numbers : (t : Tree) → order t ≤ MAX_NODES → (symmetry t < 2 ^ 64) × (density t < 2 ^ 64)
 small_numbers t h =
     let d = symmetry_density_divides t in
     let b = factor_le (factorial (order t)) d.0 (symmetry t) (density t) (factorial_pos (order t)) (symmetry_pos t.below) (mul-pos (omega arith) (density_pos t.below)) d.1 in
-    let top : factorial (order t) ≤ 20922789888000 = factorial_upto (order t) MAX_NODES h in
+    let top : factorial (order t) < 2 ^ 64 = factorial_fits (order t) h in
     (omega arith, omega arith)
+
+-- ---- the product of the symmetry and the density
+product_pos : (s d : ℕ) → 0 < s → 0 < d → 0 < s * d
+product_pos s d h k = mul-pos h k
+
+pub weight_pos : (t : Tree) → 0 < symmetry t * density t
+weight_pos t = product_pos (symmetry t) (density t) (symmetry_pos t.below) (mul-pos (omega arith) (density_pos t.below))
+
+-- the symmetry times the density goes alpha times into the factorial of the order
+pub alpha_is : (t : Tree) → factorial (order t) ≡ alpha t * (symmetry t * density t)
+alpha_is t =
+    let d = symmetry_density_divides t in
+    let e : alpha t ≡ d.0 = div-eq_of_eq-mul_left (weight_pos t) d.1 in
+    d.1 ∙ ap (λ (q : ℕ). q * (symmetry t * density t)) (sym e)
+
+product_le : (F q w : ℕ) → 0 < F → F ≡ q * w → w ≤ F
+product_le F zero w h e = absurd (let z : F ≡ 0 = e ∙ omega arith in omega arith)
+product_le F (suc q) w h e = let z : F ≡ w + q * w = e ∙ omega arith in omega arith
+
+pub weight_fits : (t : Tree) → order t ≤ MAX_NODES → symmetry t * density t < 2 ^ 64
+weight_fits t h =
+    let le : symmetry t * density t ≤ factorial (order t) = product_le (factorial (order t)) (alpha t) (symmetry t * density t) (factorial_pos (order t)) (alpha_is t) in
+    omega (arith, factorial_fits (order t) h)
 
 -- ---- a loop over the children
 pub density_more : (xs : List Tree) (i : ℕ) (d : Tree) → i < length xs → density_of (forest (drop i xs)) ≡ density (get_or xs i d) * density_of (forest (drop (i + 1) xs))

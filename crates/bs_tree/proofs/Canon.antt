@@ -1,5 +1,5 @@
 -- The canonical sequence is the greatest, and tells trees apart.
-use Rattle.std.proofs.Common.{◌≡◌, ℕ, suc, zero, List, [], ◌∷◌, Bool, true, false, cond, ◌&&◌, ◌↔◌, refl, ap, ap₂, subst, sym, ◌∙◌, arith, eqb, IsTrue, append-nil}
+use Rattle.std.proofs.Common.{◌≡◌, ℕ, List, [], ◌∷◌, Bool, true, false, ◌&&◌, refl, ap, ap₂, subst, sym, ◌∙◌, arith, eqb, IsTrue}
 use Rattle.std.specs.declared.cmp.Ordering.{Ordering}
 use Rattle.std.specs.declared.cmp.Ordering.TheVariants.{Less, Equal, Greater}
 use Rattle.std.specs.Ordering.{nat_cmp, ordering_then, ordering_reverse, is_gt, is_le}
@@ -8,7 +8,7 @@ use Rattle.std.proofs.lemmas.Bool.Decides.{nat_tests}
 use Rattle.bs_tree.specs.Tree.{Forest, none, grow, Tree}
 use Rattle.bs_tree.specs.Canonical.{level_sequence, level_sequence_at}
 use Rattle.bs_tree.specs.Canonical.{tree_cmp, is_above, insert, sorted, canonical_sequence, IsCanonicalSequence, compare, sequence_cmp}
-use Rattle.bs_tree.specs.Isomorphic.{isomorphic, isomorphic_lists}
+use Rattle.bs_tree.specs.Isomorphic.{isomorphic}
 use Rattle.bs_tree.specs.OrderLaws.{compare_is, same_from_compare, sequence_total, then-equal_both, nat_cmp-equal}
 use Rattle.bs_tree.proofs.Sorting.{by_cases, insert_comm, upto_sorted, IsUpto, same_tree}
 use Rattle.bs_tree.proofs.Isomorphic.{sorted_from_isomorphic, isomorphic_from_sorted, sorted_tree}
@@ -97,7 +97,7 @@ below_both Less h k = cc
 below_both Equal h k = refl
 below_both Greater h k = cc
 
-same_tree_from_sequence : (t u : Tree) → level_sequence t ≡ level_sequence u → t ≡ u
+pub same_tree_from_sequence : (t u : Tree) → level_sequence t ≡ level_sequence u → t ≡ u
 same_tree_from_sequence t u h = same_tree t u (sym (sequence_cmp-level_sequence t u) ∙ ap (sequence_cmp (level_sequence t)) (sym h) ∙ tied_itself sequence_total (level_sequence t))
 
 pub isomorphic_from_canon : (t u : Tree) (s r : List (ℕ × ℕ)) → IsCanonicalSequence t s → IsCanonicalSequence u r → s ≡ r → IsTrue (isomorphic t u)
@@ -129,6 +129,14 @@ canon_from_isomorphic t u s r a b h =
     let p : is_le (sequence_cmp s r) ≡ true = subst (λ (x : List (ℕ × ℕ)). is_le (sequence_cmp x r) ≡ true) a.reached.2 (b.greatest v uv) in
     let q : is_le (sequence_cmp r s) ≡ true = subst (λ (x : List (ℕ × ℕ)). is_le (sequence_cmp x s) ≡ true) b.reached.2 (a.greatest w tw) in
     pair_sequence_equal s r (below_both _ p (ap is_le (sym (sequence_total.antisymm r s)) ∙ q))
+
+-- there is one canonical sequence
+pub canon_only : (t : Tree) (s : List (ℕ × ℕ)) → IsCanonicalSequence t s → s ≡ canonical_sequence t
+canon_only t s a = canon_from_isomorphic t t s (canonical_sequence t) a (canon_is t) (isomorphic_refl t)
+
+-- a tree is isomorphic to its canonical form
+pub isomorphic_canonical : (t : Tree) → isomorphic t (record { colour = t.colour; below = sorted t.below }) ≡ true
+isomorphic_canonical t = isomorphic_from t (record { colour = t.colour; below = sorted t.below }) (record { colours = refl; lists = sym (sorted-sorted t.below) })
 
 -- examples, computed
 leaf_of : ℕ → Tree

@@ -1,11 +1,11 @@
 -- The sorted codes of the children, joined, are the canonical sequence.
-use Rattle.std.proofs.Common.{◌≡◌, ℕ, suc, zero, ◌+◌, ◌≤◌, ◌<◌, Bool, true, false, cond, List, [], ◌∷◌, ◌++◌, length, take, map, refl, ap, ap₂, subst, sym, ◌∙◌, arith, IsPermutation, IsSorted}
+use Rattle.std.proofs.Common.{◌≡◌, ℕ, suc, ◌≤◌, ◌<◌, true, false, List, [], ◌∷◌, ◌++◌, map, refl, ap, sym, ◌∙◌, arith, IsPermutation, IsSorted}
 use Rattle.std.specs.List.{AllByRecursion}
 use Rattle.std.specs.Ordering.{flip_args, is_gt, is_eq}
 use Rattle.std.specs.declared.cmp.Ordering.{Ordering}
 use Rattle.std.specs.declared.cmp.Ordering.TheVariants.{Less, Equal, Greater}
 use Rattle.std.proofs.lemmas.Cmp.{tied_itself}
-use Rattle.bs_tree.specs.Tree.{Forest, none, grow, Tree, nodes, order, trees, forest, Coloured}
+use Rattle.bs_tree.specs.Tree.{Forest, none, grow, Tree, order, forest, Coloured}
 use Rattle.bs_tree.specs.Canonical.{level_sequence, level_sequence_at}
 use Rattle.bs_tree.specs.Canonical.{insert, sorted, canonical_sequence, sequence_cmp, is_above}
 use Rattle.bs_tree.specs.Isomorphic.{isomorphic}
@@ -19,7 +19,7 @@ use Rattle.bs_tree.proofs.Divides.{nodes-sorted}
 use Rattle.bs_tree.proofs.Canon.{sequence_cmp-level_sequence, pair_sequence_equal, canon_is, isomorphic_from_canon, canon_from_isomorphic}
 use Rattle.bs_tree.specs.declared.TheConstants.{MAX_NODES}
 
-exact : (s r : List (ℕ × ℕ)) → sequence_cmp s r ≡ Equal → s ≡ r
+pub exact : (s r : List (ℕ × ℕ)) → sequence_cmp s r ≡ Equal → s ≡ r
 exact s r h = pair_sequence_equal s r h
 
 sequences-insert : (t : Tree) (f : Forest) → sequences (insert t f) ≡ put sequence_cmp sequence_total exact (level_sequence t) (sequences f)
@@ -31,7 +31,7 @@ sequences-insert t (grow d below more) =
     (λ k. let k' : is_gt (sequence_cmp (level_sequence v) (level_sequence t)) ≡ true = e ∙ k in rw (k, k') (ap (λ (ss : List (List (ℕ × ℕ))). level_sequence v ∷ ss) (sequences-insert t more)))
     (λ k. let k' : is_gt (sequence_cmp (level_sequence v) (level_sequence t)) ≡ false = e ∙ k in rw (k, k') refl)
 
-sequences-sorted : (ts : List Tree) → sequences (sorted (forest ts)) ≡ sort sequence_cmp sequence_total exact (map canonical_sequence ts)
+pub sequences-sorted : (ts : List Tree) → sequences (sorted (forest ts)) ≡ sort sequence_cmp sequence_total exact (map canonical_sequence ts)
 sequences-sorted [] = refl
 sequences-sorted (t ∷ ts) =
     sequences-insert (sorted_tree t.colour t.below) (sorted (forest ts)) ∙ ap (put sequence_cmp sequence_total exact (canonical_sequence t)) (sequences-sorted ts)
@@ -50,7 +50,7 @@ coloured-insert k t (grow e below more) c d h =
     (λ y. rw y (h.0, h.1, coloured-insert k t more c d h.2))
     (λ n. rw n (c, d, h))
 
-coloured-sorted : (k : ℕ) (f : Forest) → Coloured k f → Coloured k (sorted f)
+pub coloured-sorted : (k : ℕ) (f : Forest) → Coloured k f → Coloured k (sorted f)
 coloured-sorted k none h = tt
 coloured-sorted k (grow c kids rest) h = coloured-insert k (sorted_tree c kids) (sorted rest) h.0 (coloured-sorted k kids h.1) (coloured-sorted k rest h.2)
 

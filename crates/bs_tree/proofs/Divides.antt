@@ -1,5 +1,5 @@
 -- The symmetry times the density divides the factorial of the order.
-use Rattle.std.proofs.Common.{◌≡◌, ℕ, suc, zero, ◌+◌, ◌*◌, ◌^◌, ◌≤◌, ◌<◌, Bool, true, false, cond, refl, ap, ap₂, subst, sym, ◌∙◌, arith, pow-suc, zero-mul, mul_comm}
+use Rattle.std.proofs.Common.{◌≡◌, ℕ, suc, zero, ◌+◌, ◌*◌, ◌^◌, ◌≤◌, Bool, true, false, cond, refl, ap, ap₂, sym, ◌∙◌, arith, pow-suc, zero-mul, mul_comm}
 use Rattle.std.proofs.Math.Nat.{pow-zero}
 use Rattle.std.proofs.lemmas.Nat.{mul-pow}
 use Rattle.bs_tree.specs.Tree.{Forest, none, grow, Tree, nodes, order}
@@ -8,7 +8,7 @@ use Rattle.bs_tree.specs.Isomorphic.{isomorphic}
 use Rattle.bs_tree.specs.Numbers.{count_alike, symmetry_of, density_of, symmetry, density, factorial}
 use Rattle.bs_tree.proofs.Sorting.{by_cases}
 use Rattle.bs_tree.proofs.Isomorphic.{sorted_tree}
-use Rattle.bs_tree.proofs.Canon.{isomorphic_refl, isomorphic_sym, isomorphic_trans, isomorphic_from, IsAlike, alike, sorted-sorted}
+use Rattle.bs_tree.proofs.Canon.{isomorphic_refl, isomorphic_sym, isomorphic_trans, isomorphic_from, alike, sorted-sorted}
 
 -- ---- factorials
 add_lem : (a b k m A B F n : ℕ) → suc n ≡ suc a + suc b → F ≡ k * (A * (suc b * B)) → F ≡ m * ((suc a * A) * B) → suc n * F ≡ (k + m) * ((suc a * A) * (suc b * B))
@@ -50,11 +50,11 @@ factorial_groups (suc m) k =
     )
 
 -- ---- the weight of a list: its symmetry times its density
-abbrev weight_of : Forest → ℕ
+abbrev pub weight_of : Forest → ℕ
 weight_of none = 1
 weight_of (grow c kids rest) = (suc (nodes kids) * weight_of kids) * suc (count_alike (record { colour = c; below = kids }) rest) * weight_of rest
 
-abbrev weight : Tree → ℕ
+abbrev pub weight : Tree → ℕ
 weight t = order t * weight_of t.below
 
 pub weight_is : (f : Forest) → weight_of f ≡ symmetry_of f * density_of f
@@ -159,14 +159,14 @@ weight-sorted (grow c kids rest) =
     let w : weight u ≡ weight t = ap₂ (λ (i j : ℕ). suc i * j) (nodes-sorted kids) (weight-sorted kids) in
     weight-insert u (sorted rest) ∙ ap₂ (λ (i j : ℕ). i * suc j * weight_of (sorted rest)) w e ∙ ap (λ (i : ℕ). weight t * suc (count_alike t rest) * i) (weight-sorted rest)
 
-weight_same : (t u : Tree) → isomorphic t u ≡ true → weight t ≡ weight u
+pub weight_same : (t u : Tree) → isomorphic t u ≡ true → weight t ≡ weight u
 weight_same t u h =
     let a = alike t u h in
     ap₂ (λ (i j : ℕ). suc i * j)
     (sym (nodes-sorted t.below) ∙ ap nodes a.lists ∙ nodes-sorted u.below)
     (sym (weight-sorted t.below) ∙ ap weight_of a.lists ∙ weight-sorted u.below)
 
-order_same : (t u : Tree) → isomorphic t u ≡ true → order t ≡ order u
+pub order_same : (t u : Tree) → isomorphic t u ≡ true → order t ≡ order u
 order_same t u h =
     let a = alike t u h in ap suc (sym (nodes-sorted t.below) ∙ ap nodes a.lists ∙ nodes-sorted u.below)
 

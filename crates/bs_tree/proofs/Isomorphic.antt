@@ -1,13 +1,13 @@
 -- Two trees are isomorphic exactly where their canonical forms are equal.
-use Rattle.std.proofs.Common.{◌≡◌, ℕ, suc, zero, List, [], ◌∷◌, Bool, true, false, cond, ◌&&◌, ◌||◌, refl, ap, ap₂, subst, sym, ◌∙◌, arith, eqb, Option, Some, None, option_map, IsTrue}
+use Rattle.std.proofs.Common.{◌≡◌, ℕ, Bool, true, false, ◌&&◌, ◌||◌, refl, ap, ap₂, sym, ◌∙◌, arith, eqb, Option, Some, None}
 use Rattle.std.proofs.lemmas.Bool.Decides.{nat_tests}
 use Rattle.std.specs.declared.cmp.Ordering.{Ordering}
 use Rattle.std.specs.declared.cmp.Ordering.TheVariants.{Less, Equal, Greater}
-use Rattle.std.specs.Ordering.{is_eq, is_gt, is_le}
+use Rattle.std.specs.Ordering.{is_eq}
 use Rattle.std.proofs.lemmas.Cmp.{tied_itself}
 use Rattle.bs_tree.specs.Tree.{Forest, none, grow, Tree}
 use Rattle.bs_tree.specs.Canonical.{tree_cmp, is_above, insert, sorted}
-use Rattle.bs_tree.specs.Isomorphic.{is_empty, take_first, on_left, isomorphic_lists}
+use Rattle.bs_tree.specs.Isomorphic.{is_empty, take_first, isomorphic_lists}
 use Rattle.bs_tree.proofs.Sorting.{by_cases, insert_comm, insert_inj, same_tree, tree_total}
 
 by_option : {G : Type 0} (o : Option Forest) → (o ≡ None → G) → ((f : Forest) → o ≡ Some f → G) → G

@@ -1,14 +1,15 @@
 -- Sequences and the trees that they describe.
-use Rattle.std.proofs.Common.{◌≡◌, ℕ, suc, zero, ◌+◌, ◌*◌, ◌≤◌, ◌<◌, Bool, true, false, cond, ltb, List, [], ◌∷◌, ◌++◌, length, take, get_or, map, All, refl, ap, ap₂, subst, sym, ◌∙◌, arith, append_assoc, append-nil, length-append, IsPermutation, IsSorted}
+use Rattle.std.proofs.Common.{◌≡◌, ℕ, suc, zero, ◌+◌, ◌≤◌, ◌<◌, true, false, ltb, List, [], ◌∷◌, ◌++◌, length, take, get_or, map, All, refl, ap, ap₂, subst, sym, ◌∙◌, arith, append_assoc, append-nil, length-append, IsTrue}
 use Rattle.std.proofs.lemmas.Bool.Decides.{nat_tests}
 use Rattle.std.proofs.lemmas.List.{take_more, map-append}
-use Rattle.std.proofs.lemmas.List.Elements.{All-nil, All-cons, All-append, All-weaker}
-use Rattle.std.specs.Ordering.{flip_args}
-use Rattle.bs_tree.specs.Tree.{Forest, none, grow, Tree, nodes, order, trees, forest}
+use Rattle.std.specs.List.{AllByRecursion}
+use Rattle.std.proofs.lemmas.List.Elements.{All-nil, All-cons, All-append}
+use Rattle.bs_tree.specs.Tree.{Forest, none, grow, Tree, nodes, trees}
 use Rattle.bs_tree.specs.Canonical.{level_sequence, level_sequence_at}
-use Rattle.bs_tree.specs.Canonical.{sorted, canonical_sequence, sequence_cmp}
+use Rattle.bs_tree.specs.Canonical.{sorted, canonical_sequence}
 use Rattle.bs_tree.specs.Code.{IsCode, Parsed, parse, tree_of, deeper, all_deeper, joined}
-use Rattle.bs_tree.proofs.Canon.{sorted-sorted}
+use Rattle.bs_tree.specs.Isomorphic.{isomorphic}
+use Rattle.bs_tree.proofs.Canon.{sorted-sorted, isomorphic_canonical}
 use Rattle.bs_tree.specs.declared.TheConstants.{MAX_NODES}
 
 abbrev IsLow : ℕ → List (ℕ × ℕ) → Type 0
@@ -60,6 +61,11 @@ canonical_sequence-tree_of t =
     let s : Tree = record { colour = t.colour; below = sorted t.below } in
     ap canonical_sequence (tree_of-level_sequence s) ∙ ap (λ (f : Forest). let u : Tree = record { colour = t.colour; below = f } in level_sequence u) (sorted-sorted t.below)
 
+pub isomorphic-tree_of : (t : Tree) → IsTrue (isomorphic t (tree_of (canonical_sequence t)))
+isomorphic-tree_of t =
+    let s : Tree = record { colour = t.colour; below = sorted t.below } in
+    ap (isomorphic t) (tree_of-level_sequence s) ∙ isomorphic_canonical t
+
 -- ---- one level deeper
 pub deeper-level_sequence_at : (l : ℕ) (f : Forest) → deeper (level_sequence_at l f) ≡ level_sequence_at (suc l) f
 deeper-level_sequence_at l none = refl
@@ -89,21 +95,25 @@ joined_more c cs i d h = ap (λ (ps : List (ℕ × ℕ)). (1, c) ∷ ps)
     (ap all_deeper (take_more cs i d h) ∙ all_deeper-append (take i cs) (get_or cs i d ∷ []) ∙ ap (λ (ps : List (ℕ × ℕ)). all_deeper (take i cs) ++ ps) (append-nil (deeper (get_or cs i d))))
 
 -- ---- levels
-pub level_bound : (l n : ℕ) (f : Forest) → l + nodes f ≤ n → All (λ (p : ℕ × ℕ). p.0 < n) (level_sequence_at l f)
-level_bound l n none h = All-nil (λ (p : ℕ × ℕ). p.0 < n)
-level_bound l n (grow c kids rest) h =
-    let P : ℕ × ℕ → Type 0 = λ p. p.0 < n in
-    All-cons P (l, c) (level_sequence_at (suc l) kids ++ level_sequence_at l rest) (omega arith)
-    (All-append P (level_sequence_at (suc l) kids) (level_sequence_at l rest) (level_bound (suc l) n kids (omega arith)) (level_bound l n rest (omega arith)))
+pub level_bound : (l n : ℕ) (f : Forest) → 0 < l → l + nodes f ≤ suc n → All (λ (p : ℕ × ℕ). (0 < p.0) × (p.0 ≤ n)) (level_sequence_at l f)
+level_bound l n none k h = All-nil (λ (p : ℕ × ℕ). (0 < p.0) × (p.0 ≤ n))
+level_bound l n (grow c kids rest) k h =
+    let P : ℕ × ℕ → Type 0 = λ p. (0 < p.0) × (p.0 ≤ n) in
+    All-cons P (l, c) (level_sequence_at (suc l) kids ++ level_sequence_at l rest) (k, omega arith)
+    (All-append P (level_sequence_at (suc l) kids) (level_sequence_at l rest) (level_bound (suc l) n kids (omega arith) (omega arith)) (level_bound l n rest k (omega arith)))
 
-pub code_levels : (s : List (ℕ × ℕ)) → IsCode s → All (λ (p : ℕ × ℕ). p.0 < MAX_NODES + 2) s
+pub code_levels : (s : List (ℕ × ℕ)) → IsCode s → All (λ (p : ℕ × ℕ). (0 < p.0) × (p.0 ≤ MAX_NODES)) s
 code_levels s h =
     let t = tree_of s in
-    let P : List (ℕ × ℕ) → Type 0 = λ ps. All (λ (p : ℕ × ℕ). p.0 < MAX_NODES + 2) ps in
+    let P : ℕ × ℕ → Type 0 = λ p. (0 < p.0) × (p.0 ≤ MAX_NODES) in
     let size : length s ≡ suc (nodes (sorted t.below)) = ap length (sym h.canonical) ∙ ap suc (length-level_sequence_at 2 (sorted t.below)) in
-    subst P h.canonical
-    (All-cons (λ (p : ℕ × ℕ). p.0 < MAX_NODES + 2) (1, t.colour) (level_sequence_at 2 (sorted t.below)) (omega arith)
-    (level_bound 2 (MAX_NODES + 2) (sorted t.below) (omega (arith, h.small))))
+    subst (All P) h.canonical
+    (All-cons P (1, t.colour) (level_sequence_at 2 (sorted t.below)) (omega arith, omega arith)
+    (level_bound 2 MAX_NODES (sorted t.below) (omega arith) (omega (arith, h.small))))
+
+pub code_colours : (s : List (ℕ × ℕ)) → AllByRecursion (λ (p : ℕ × ℕ). p.1 < 4) s → All (λ (p : ℕ × ℕ). p.1 < 4) s
+code_colours [] h = All-nil (λ (p : ℕ × ℕ). p.1 < 4)
+code_colours (p ∷ ps) h = All-cons (λ (p : ℕ × ℕ). p.1 < 4) p ps h.0 (code_colours ps h.1)
 
 length-deeper : (ps : List (ℕ × ℕ)) → length (deeper ps) ≡ length ps
 length-deeper [] = refl

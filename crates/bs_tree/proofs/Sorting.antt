@@ -1,12 +1,11 @@
 -- The canonical form is the greatest, and the same for isomorphic trees.
-use Rattle.std.proofs.Common.{◌≡◌, ℕ, suc, zero, ◌<◌, ◌≤◌, List, [], ◌∷◌, ◌++◌, Bool, true, false, cond, ◌&&◌, refl, ap, ap₂, subst, sym, ◌∙◌, arith, eqb, ltb, Option, Some, None, option_map, IsTrue}
+use Rattle.std.proofs.Common.{◌≡◌, ℕ, Bool, true, false, cond, refl, ap, ap₂, subst, sym, ◌∙◌}
 use Rattle.std.specs.declared.cmp.Ordering.{Ordering}
 use Rattle.std.specs.declared.cmp.Ordering.TheVariants.{Less, Equal, Greater}
-use Rattle.std.specs.Ordering.{nat_cmp, ordering_then, ordering_reverse, then_cmp, is_gt, is_le, is_eq}
+use Rattle.std.specs.Ordering.{ordering_then, ordering_reverse, is_gt, is_eq}
 use Rattle.std.specs.Cmp.{IsTotalOrder}
 use Rattle.std.proofs.lemmas.Cmp.{nat_cmp_total, tied_itself, on_total, then_total, upto}
 use Rattle.bs_tree.specs.Tree.{Forest, none, grow, Tree}
-use Rattle.bs_tree.specs.Canonical.{level_sequence_at, level_sequence}
 use Rattle.bs_tree.specs.Canonical.{compare, tree_cmp, is_above, insert, sorted}
 use Rattle.bs_tree.specs.OrderLaws.{compare_total, same_from_compare, then-equal_both, nat_cmp-equal}
 

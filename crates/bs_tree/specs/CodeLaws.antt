@@ -1,28 +1,53 @@
--- Codes as lists of pairs.
-use Rattle.std.proofs.Common.{◌≡◌, ℕ, Bool, true, false, ◌&&◌, eqb, arith, refl, ap, ap₂, List, [], ◌∷◌}
+-- Laws of codes. Each is the contract of a function of the module `code_laws`.
+--
+--   SameCodeDecides           == same_code is the test of equality
+--   LevelSequencesDescribe    == the lists with valid levels are the level sequences of the trees that they describe, and no others
+--   CodesAreLevelSequences    == a code is a level sequence, and the code of its pairs is that code
+--   TreesHaveCodes            == the canonical sequence of a tree within the bounds is a code
+--   ChildrenAreCodes          == the children of a code are codes, each of a smaller order
+--   ChildrenDecrease          == they come in decreasing order
+--   ChildrenAddUp             == the order is one more than the orders of the children together
+--   CodeIsRootOverChildren    == a code is its root's colour over the codes of its children
+--   ColourAndChildrenDecide   == so two codes with one colour and the same children are equal
+--   RootOverCodesIsACode      == a colour over codes in decreasing order that fit is a code, with that colour and those children
+--
+-- Source: this project's own.
+use Rattle.std.specs.Prelude.{◌≡◌, ℕ, ◌<◌, ◌≤◌, ◌+◌, ◌↔◌, List, IsTrue, IsSorted, All, Some, length, map, sum}
 use Rattle.std.specs.Bool.{Decides}
-use Rattle.std.proofs.lemmas.Bool.Decides.{nat_tests}
-use Rattle.std.specs.Cmp.{IsEquivalence}
-use Rattle.std.specs.Ordering.{eq_by_cmp}
-use Rattle.std.proofs.lemmas.Cmp.{eq_by_cmp_equiv}
-use Rattle.bs_tree.specs.Canonical.{sequence_cmp}
-use Rattle.bs_tree.specs.OrderLaws.{sequence_total}
+use Rattle.std.specs.Ordering.{flip_args}
+use Rattle.bs_tree.specs.Tree.{Tree, order, IsColoured}
+use Rattle.bs_tree.specs.Canonical.{level_sequence, canonical_sequence, sequence_cmp}
+use Rattle.bs_tree.specs.Code.{has_valid_levels, is_level_sequence, tree_of, IsCode, code_of_pairs, child_codes, root_colour, same_code, joined}
+use Rattle.bs_tree.specs.declared.TheConstants.{MAX_NODES, COLOURS}
 
-and_both : (a b : Bool) → (a && b) ≡ true → (a ≡ true) × (b ≡ true)
-and_both true b h = (refl, h)
-and_both false b h = cc
+abbrev pub SameCodeDecides : Type 0
+SameCodeDecides = (a b : List (ℕ × ℕ)) → Decides (same_code a b) (a ≡ b)
 
-eqb_same : (a b : ℕ) → eqb a b ≡ true → a ≡ b
-eqb_same a b h = grind (arith, nat_tests)
+abbrev pub LevelSequencesDescribe : Type 0
+LevelSequencesDescribe = (ps : List (ℕ × ℕ)) → (IsTrue (has_valid_levels ps) ↔ (level_sequence (tree_of ps) ≡ ps))
 
-eqb_refl : (a : ℕ) → eqb a a ≡ true
-eqb_refl a = grind (arith, nat_tests)
+abbrev pub CodesAreLevelSequences : Type 0
+CodesAreLevelSequences = (s : List (ℕ × ℕ)) → IsCode s → IsTrue (is_level_sequence s) × (level_sequence (tree_of s) ≡ s) × (code_of_pairs s ≡ Some s)
 
-pub pair-Decides : (a b : ℕ × ℕ) → Decides (eqb a.0 b.0 && eqb a.1 b.1) (a ≡ b)
-pair-Decides a b = (
-  λ h. let t = and_both (eqb a.0 b.0) _ h in ap₂ (λ (m n : ℕ). let p : ℕ × ℕ = (m, n) in p) (eqb_same _ _ t.0) (eqb_same _ _ t.1),
-  λ e. rw (e, eqb_refl b.0, eqb_refl b.1) refl,
-)
+abbrev pub TreesHaveCodes : Type 0
+TreesHaveCodes = (t : Tree) → order t ≤ MAX_NODES → IsColoured COLOURS t → IsCode (canonical_sequence t)
 
-pub sequence_equivalence : IsEquivalence (eq_by_cmp sequence_cmp)
-sequence_equivalence = eq_by_cmp_equiv sequence_total
+abbrev pub ChildrenAreCodes : Type 0
+ChildrenAreCodes = (s : List (ℕ × ℕ)) → IsCode s → All (λ child. IsCode child × (length child < length s)) (child_codes s)
+
+abbrev pub ChildrenDecrease : Type 0
+ChildrenDecrease = (s : List (ℕ × ℕ)) → IsCode s → IsSorted (flip_args sequence_cmp) (child_codes s)
+
+abbrev pub ChildrenAddUp : Type 0
+ChildrenAddUp = (s : List (ℕ × ℕ)) → IsCode s → length s ≡ 1 + sum (map length (child_codes s))
+
+abbrev pub CodeIsRootOverChildren : Type 0
+CodeIsRootOverChildren = (s : List (ℕ × ℕ)) → IsCode s → s ≡ joined (root_colour s) (child_codes s)
+
+abbrev pub ColourAndChildrenDecide : Type 0
+ColourAndChildrenDecide = (r s : List (ℕ × ℕ)) → IsCode r → IsCode s → root_colour r ≡ root_colour s → child_codes r ≡ child_codes s → r ≡ s
+
+abbrev pub RootOverCodesIsACode : Type 0
+RootOverCodesIsACode =
+    (colour : ℕ) (codes : List (List (ℕ × ℕ))) → colour < COLOURS → All IsCode codes → IsSorted (flip_args sequence_cmp) codes → sum (map length codes) < MAX_NODES
+    → IsCode (joined colour codes) × (root_colour (joined colour codes) ≡ colour) × (child_codes (joined colour codes) ≡ codes)

@@ -3,7 +3,10 @@ pub mod TreeCode
 pub mod Isomorphic
 pub mod Canonical
 pub mod Code
+pub mod Subtrees
 pub mod CodeBack
 pub mod OrderLaws
+pub mod CodeEquality
 pub mod CodeLaws
 pub mod Numbers
+pub mod Laws

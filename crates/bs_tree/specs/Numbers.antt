@@ -8,7 +8,7 @@
 --
 -- Source: Butcher (2021), the functions on trees; Hairer, Norsett and Wanner (1993), II.2.
 -- The code counts equal canonical sequences among the later siblings.
-use Rattle.std.specs.Prelude.{◌≡◌, ℕ, zero, suc, ◌+◌, ◌*◌, ◌/◌, Bool, cond}
+use Rattle.std.specs.Prelude.{ℕ, zero, suc, ◌*◌, ◌/◌, cond}
 use Rattle.bs_tree.specs.Tree.{Forest, none, grow, Tree, nodes, order}
 use Rattle.bs_tree.specs.Isomorphic.{isomorphic}
 

@@ -1,14 +1,13 @@
 -- The order of sequences is the order of trees.
-use Rattle.std.proofs.Common.{◌≡◌, ℕ, suc, zero, ◌<◌, ◌≤◌, List, [], ◌∷◌, ◌++◌, Bool, true, false, cond, refl, ap, ap₂, sym, ◌∙◌, arith, append_assoc, append-nil, eqb, ltb}
+use Rattle.std.proofs.Common.{◌≡◌, ℕ, suc, ◌<◌, List, [], ◌∷◌, ◌++◌, refl, ap, ap₂, sym, ◌∙◌, arith, append_assoc, append-nil}
 use Rattle.std.specs.declared.cmp.Ordering.{Ordering}
 use Rattle.std.specs.declared.cmp.Ordering.TheVariants.{Less, Equal, Greater}
 use Rattle.std.specs.Ordering.{nat_cmp, ordering_then, ordering_reverse}
-use Rattle.std.specs.Cmp.Lexicographic.{slice_cmp}
 use Rattle.std.specs.Cmp.{IsTotalOrder}
 use Rattle.std.proofs.lemmas.Cmp.{nat_cmp_total, tied_itself, lists_total, on_total, then_total}
 use Rattle.std.proofs.lemmas.Bool.Decides.{nat_tests}
-use Rattle.bs_tree.specs.Tree.{Forest, none, grow, Tree}
-use Rattle.bs_tree.specs.Canonical.{level_sequence_at, level_sequence}
+use Rattle.bs_tree.specs.Tree.{Forest, none, grow}
+use Rattle.bs_tree.specs.Canonical.{level_sequence_at}
 use Rattle.bs_tree.specs.Canonical.{pair_cmp, sequence_cmp, compare}
 
 -- nothing, or a list that begins below this level

@@ -6,11 +6,12 @@
 --   order T           == |T|, the number of nodes
 --   nodes f           == the number of nodes of all trees of a forest
 --   Coloured k f      == every colour in the forest is below k
+--   IsColoured k T    == every colour of the tree is below k
 --
 -- Source: Butcher (2021), rooted trees; Chartier, Hairer and Vilmart (2010) for several colours.
 -- The code keeps a vector of children and the number of nodes beside.
-use Rattle.std.specs.Prelude.{◌≡◌, ℕ, zero, suc, ◌+◌, ◌<◌, ◌≤◌, List, [], ◌∷◌}
-use Rattle.bs_tree.specs.declared.TheConstants.{MAX_NODES}
+use Rattle.std.specs.Prelude.{◌≡◌, ℕ, suc, ◌+◌, ◌<◌, ◌≤◌, List, [], ◌∷◌}
+use Rattle.bs_tree.specs.declared.TheConstants.{MAX_NODES, COLOURS}
 
 -- A list of trees: the first tree's colour and children, and the later trees
 pub data Forest : Type 0 where
@@ -43,9 +44,12 @@ abbrev pub Coloured : ℕ → Forest → Type 0
 Coloured k none = Unit {0}
 Coloured k (grow c kids rest) = (c < k) × Coloured k kids × Coloured k rest
 
--- a root of this colour over these trees has this number of nodes, at most MAX_NODES, and colours below 4
+abbrev pub IsColoured : ℕ → Tree → Type 0
+IsColoured k t = (t.colour < k) × Coloured k t.below
+
+-- a root of this colour over these trees has this number of nodes, at most MAX_NODES, and colours below COLOURS
 pub record IsWithin (colour count : ℕ) (f : Forest) : Type 0 where
-  pub root : colour < 4
-  pub coloured : Coloured 4 f
+  pub root : colour < COLOURS
+  pub coloured : Coloured COLOURS f
   pub small : count ≤ MAX_NODES
   pub count_is : count ≡ suc (nodes f)

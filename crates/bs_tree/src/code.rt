@@ -1,15 +1,24 @@
-ghost use Rattle.std.specs.Prelude.{◌≡◌, ℕ, ◌<◌, ◌++◌, All, IsSorted, IsPermutation, count_by, drop, ◌+◌, ◌≤◌, ◌↔◌, List, [], ◌∷◌, length, slice_get, IfSome, IsTrue, Some, slice_index_or};
-ghost use Rattle.bs_tree.specs.Canonical.{sequence_cmp};
-ghost use Rattle.bs_tree.specs.Code.{IsCode, joined};
-ghost use Rattle.std.proofs.Common.{rules};
+//! Codes: canonical sequences of trees, in place.
+//!
+//! Contracts see a `Code` as its list of pairs (level, colour). Each is the canonical sequence of a tree of 1 to MAX_NODES
+//! nodes with colours below 4. No call takes memory but `tree`.
+ghost use Rattle.std.specs.Prelude.{◌≡◌, ◌<◌, ◌≤◌, All, [], ◌∷◌, length, slice_get, IfSome, IfOk, Some};
 ghost use Rattle.std.specs.Cmp.{partial_order_from_total};
 ghost use Rattle.std.specs.Cmp.Rules.{comparing};
-ghost use Rattle.std.specs.Ordering.{is_eq, as_partial_cmp, flip_args};
+ghost use Rattle.std.specs.Ordering.{as_partial_cmp};
+ghost use Rattle.std.proofs.Common.{rules};
+ghost use Rattle.bs_tree.specs.Canonical.{level_sequence, sequence_cmp};
+ghost use Rattle.bs_tree.specs.Code.{IsCode, joined, tree_of, code_of_pairs, child_codes, same_code};
+ghost use Rattle.bs_tree.specs.CodeEquality.{sequence_equivalence};
+ghost use Rattle.bs_tree.specs.Numbers.{density};
 ghost use Rattle.bs_tree.specs.OrderLaws.{sequence_total};
-ghost use Rattle.bs_tree.specs.CodeLaws.{sequence_equivalence};
 
-use crate::MAX_NODES;
+use crate::build::{child_pairs, code_of, count_at, is_level_sequence, product_of_sizes};
+use crate::code_list::CodeList;
 use crate::pairs::Pairs;
+use crate::tree::Tree;
+use crate::{COLOURS, MAX_NODES};
+use std::alloc::{AllocError, Global};
 use std::cmp::Ordering;
 use std::marker::Model;
 
@@ -33,7 +42,7 @@ impl Model for Code {
 }
 
 impl PartialEq for Code {
-    ghost eq = { λ a b. is_eq (sequence_cmp a b) };
+    ghost eq = { same_code };
 
     ghost laws = { Prim.search (comparing, rules, sequence_total) };
 
@@ -71,13 +80,28 @@ impl PartialOrd for Code {
 }
 
 impl Code {
+    /// The code of the tree of one node.
     pub fn leaf(colour: u8) -> Code
-        requires { colour < 4 }
+        requires { colour < COLOURS }
         ensures { result ≡ (1, colour) ∷ [] }
     {
         let mut pairs = Pairs::new();
         pairs.push((1, colour));
         Code { pairs }
+    }
+
+    /// The code of the tree that the pairs (level, colour) describe, in whatever order its children come.
+    ///
+    /// `None` where there is no pair or more than MAX_NODES, the first level is not 1, another is below 2 or more than one
+    /// above the level before it, or a colour is not below COLOURS.
+    pub fn of_pairs(pairs: &[(u8, u8)]) -> Option<Code>
+        ensures { result ≡ code_of_pairs pairs.now }
+    {
+        if is_level_sequence(pairs) {
+            Some(code_of(pairs))
+        } else {
+            None
+        }
     }
 
     /// The root of this colour over the trees of these codes, which is the sequence as it stands.
@@ -93,117 +117,85 @@ impl Code {
         Code { pairs }
     }
 
+    /// The number of nodes.
     pub fn order(&self) -> usize
         ensures value { result ≡ length self.now }
         ensures small { result ≤ MAX_NODES }
         ensures some { 0 < result }
+        ensures code { IsCode self.now }
     {
         self.pairs.as_slice().len()
     }
 
+    /// The density of the tree: the order times the densities of the children.
+    pub fn density(&self) -> u64
+        ensures value { result ≡ density (tree_of self.now) }
+        ensures positive { 0 < result }
+    {
+        product_of_sizes(self.pairs())
+    }
+
+    /// The level of a node, the nodes counted from 0 in preorder; the root's is 1.
     pub fn level(&self, node: usize) -> u8
         requires { node < length self.now }
-        ensures { IfSome (slice_get self.now node) (λ pair. result ≡ pair.0) }
+        ensures value { IfSome (slice_get self.now node) (λ pair. result ≡ pair.0) }
+        ensures small { result ≤ MAX_NODES }
+        ensures some { 0 < result }
     {
         self.pairs()[node].0
     }
 
-    /// The pairs (level, colour).
+    /// The colour of a node, the nodes counted from 0 in preorder.
+    pub fn colour(&self, node: usize) -> u8
+        requires { node < length self.now }
+        ensures value { IfSome (slice_get self.now node) (λ pair. result ≡ pair.1) }
+        ensures small { result < COLOURS }
+    {
+        self.pairs()[node].1
+    }
+
+    /// The number of the root's children.
+    pub fn arity(&self) -> usize
+        ensures value { result ≡ length (child_codes self.now) }
+        ensures small { result < MAX_NODES }
+    {
+        count_at(self.pairs(), 2)
+    }
+
+    /// The code of the root's child at this place, the children counted from 0 in decreasing order.
+    pub fn child(&self, place: usize) -> Code
+        requires { place < length (child_codes self.now) }
+        ensures value { slice_get (child_codes self.now) place ≡ Some result }
+        ensures smaller { length result < length self.now }
+    {
+        let mut pairs = Pairs::new();
+        pairs.push_raised(child_pairs(self.pairs(), place));
+        Code { pairs }
+    }
+
+    /// The pairs (level, colour) in preorder.
     pub fn pairs(&self) -> &[(u8, u8)]
         ensures value { result.now ≡ self.now }
-        ensures levels { All (λ p. p.0 < MAX_NODES + 2) result.now }
+        ensures levels { All (λ p. (0 < p.0) × (p.0 ≤ MAX_NODES)) result.now }
+        ensures colours { All (λ p. p.1 < COLOURS) result.now }
         ensures small { length result.now ≤ MAX_NODES }
+        ensures code { IsCode result.now }
     {
         self.pairs.as_slice()
     }
 
+    /// The order of codes: pairs by level first, then by colour; lists lexicographically, a proper prefix the smaller.
     pub fn compare(&self, other: &Code) -> Ordering
         ensures { result ≡ sequence_cmp self.now other.now }
     {
         self.pairs().cmp(other.pairs())
     }
 
-    pub fn is_same(&self, other: &Code) -> bool
-        ensures { IsTrue result ↔ (self.now ≡ other.now) }
+    /// A tree with this level sequence, so with its children in decreasing order. It takes memory for the tree alone.
+    pub fn tree(&self, alloc: Global) -> Result<Tree, AllocError>
+        ensures value { IfOk result (λ tree. tree ≡ tree_of self.now) }
+        ensures sequence { IfOk result (λ tree. level_sequence tree ≡ self.now) }
     {
-        self.pairs() == other.pairs()
-    }
-}
-
-/// A list of at most MAX_NODES codes.
-#[derive(Drop)]
-pub struct CodeList {
-    len: usize,
-    codes: [Code; MAX_NODES],
-}
-
-impl Model for CodeList {
-    ghost use Rattle.std.specs.Prelude.{◌≡◌, ℕ, List, ◌≤◌, take, length};
-    ghost use Rattle.bs_tree.specs.declared.TheConstants.{MAX_NODES};
-
-    ghost Value = { List (List (ℕ × ℕ)) };
-
-    ghost view = { λ a. take a.len a.codes };
-
-    ghost invariant = { λ a. (length a.codes ≡ MAX_NODES) × (a.len ≤ MAX_NODES) };
-}
-
-impl CodeList {
-    pub fn new() -> CodeList
-        ensures { result ≡ [] }
-    {
-        CodeList {
-            len: 0,
-            codes: [Code::leaf(0); MAX_NODES],
-        }
-    }
-
-    pub fn len(&self) -> usize
-        ensures value { result ≡ length self.now }
-        ensures small { result ≤ MAX_NODES }
-    {
-        self.len
-    }
-
-    pub fn push(&mut self, code: Code)
-        requires { length self.old < MAX_NODES }
-        ensures { self.new ≡ self.old ++ code ∷ [] }
-    {
-        self.codes[self.len] = code;
-        self.len += 1;
-    }
-
-    pub fn get(&self, place: usize) -> Code
-        requires { place < length self.now }
-        ensures { slice_get self.now place ≡ Some result }
-    {
-        self.codes()[place]
-    }
-
-    fn codes(&self) -> &[Code]
-        ensures value { result.now ≡ self.now }
-        ensures small { length result.now ≤ MAX_NODES }
-    {
-        &self.codes[..self.len]
-    }
-
-    /// How many codes behind this place equal the one there.
-    pub(crate) fn count_later(&self, place: usize) -> usize
-        requires { place < length self.now }
-        ensures { IfSome (slice_get self.now place) (λ code. result ≡ count_by (λ c. is_eq (sequence_cmp c code)) (drop (place + 1) self.now)) }
-    {
-        let codes = self.codes();
-        let code = codes[place];
-        codes[place + 1..].iter().filter(|c| **c == code).count()
-    }
-
-    /// Puts the greater codes first.
-    pub(crate) fn sort(&mut self)
-        ensures order { IsSorted (flip_args sequence_cmp) self.new }
-        ensures same { IsPermutation self.old self.new }
-    {
-        let codes = &mut self.codes[..self.len];
-        codes.sort_unstable();
-        codes.reverse();
+        Tree::of_pairs(alloc, self.pairs())
     }
 }

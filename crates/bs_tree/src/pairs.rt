@@ -1,5 +1,9 @@
+//! A list of pairs (level, colour), kept in place.
+//!
+//! Contracts see a `Pairs` as the list of its pairs. No call takes memory.
 ghost use Rattle.std.specs.Prelude.{◌≡◌, ℕ, ◌+◌, ◌<◌, ◌≤◌, ◌++◌, [], ◌∷◌, length, map, All};
 ghost use Rattle.bs_tree.specs.Code.{deeper};
+ghost use Rattle.bs_tree.specs.Subtrees.{raised};
 
 use crate::MAX_NODES;
 use std::marker::Model;
@@ -13,7 +17,7 @@ pub struct Pairs {
 
 impl Model for Pairs {
     ghost use Rattle.std.specs.Prelude.{◌≡◌, ℕ, List, ◌-◌, ◌<◌, ◌≤◌, ◌++◌, take, drop, length, replicate};
-    ghost use Rattle.bs_tree.specs.CodeBack.{padded_back};
+    ghost use Rattle.bs_tree.specs.CodeBack.{pairs_back};
     ghost use Rattle.bs_tree.specs.declared.TheConstants.{MAX_NODES};
 
     ghost Value = { List (ℕ × ℕ) };
@@ -24,7 +28,7 @@ impl Model for Pairs {
 
     ghost inverse = { λ v. record { len = length v; nodes = v ++ replicate (MAX_NODES - length v) (0, 0) } };
 
-    ghost inverse_ok = { λ a h. padded_back a.len a.nodes h.0 h.1 h.2 };
+    ghost inverse_ok = { λ a h. pairs_back a.len a.nodes h.0 h.1 h.2 };
 }
 
 impl Pairs {
@@ -60,6 +64,16 @@ impl Pairs {
     {
         'pairs: for pair in pairs {
             self.push((pair.0 + 1, pair.1));
+        }
+    }
+    /// Appends the pairs, each one level higher.
+    pub fn push_raised(&mut self, pairs: &[(u8, u8)])
+        requires room { length self.old + length pairs.now ≤ MAX_NODES }
+        requires levels { All (λ p. 0 < p.0) pairs.now }
+        ensures { self.new ≡ self.old ++ raised pairs.now }
+    {
+        'pairs: for pair in pairs {
+            self.push((pair.0 - 1, pair.1));
         }
     }
 }

@@ -1,4 +1,4 @@
-use Rattle.std.proofs.Common.{◌≡◌, ◌∙◌, sym, ap, arith, ◌+◌, ◌≤◌, ◌<◌, ◌++◌, ℕ, List, length, take, get_or, All, subst}
+use Rattle.std.proofs.Common.{◌≡◌, ◌∙◌, sym, ap, arith, ◌≤◌, ◌<◌, ◌++◌, ℕ, length, take, get_or}
 use Rattle.std.proofs.lemmas.List.Elements.{All-weaker}
 use Rattle.bs_tree.specs.Code.{joined, deeper}
 use Rattle.bs_tree.proofs.Joins.{joined_more, length-joined_more}
@@ -14,7 +14,7 @@ push_deeper-requires-clause-room c =
     rw (c.codes.invariant, e) (omega (arith, length-joined_more c.args.colour cs c.codes.code-index c.code-item.result c.codes-test.true))
 
 pub push_deeper-requires-clause-levels : goal.push_deeper-requires-clause-levels
-push_deeper-requires-clause-levels c = All-weaker (λ (p : ℕ × ℕ). p.0 < MAX_NODES + 2) (λ (p : ℕ × ℕ). p.0 < 255) (λ p h. omega arith) c.pairs.result.now c.pairs.ensures.levels
+push_deeper-requires-clause-levels c = All-weaker (λ (p : ℕ × ℕ). (0 < p.0) × (p.0 ≤ MAX_NODES)) (λ (p : ℕ × ℕ). p.0 < 255) (λ p h. let k = h.1 in omega arith) c.pairs.result.now c.pairs.ensures.levels
 
 pub codes-preserved : goal.codes-preserved
 codes-preserved c =

@@ -1,4 +1,4 @@
-use Rattle.std.proofs.Common.{◌≡◌, ◌∙◌, sym, ap, ap₂, arith, ◌+◌, ◌-◌, ◌≤◌, ℕ, List, drop, replicate, length, set}
+use Rattle.std.proofs.Common.{◌≡◌, ◌∙◌, sym, ap, arith, ◌+◌, ◌-◌, ℕ, List, drop, replicate, length, set}
 use Rattle.std.proofs.lemmas.List.{drop-drop, drop-set-lt, drop-replicate, length-take-le}
 use Rattle.std.proofs.Math.ListN.{length-set}
 use Rattle.bs_tree.proofs.pairs.Pairs.push.Goals as goal

@@ -1,7 +1,7 @@
-use Rattle.std.proofs.Common.{◌≡◌, ◌∙◌, refl, sym, ap, arith, ◌+◌, ◌*◌, ◌<◌, ◌≤◌, ℕ, List, drop, get_or, subst, length}
+use Rattle.std.proofs.Common.{◌≡◌, ◌∙◌, sym, ap, arith, ◌+◌, ◌*◌, ◌<◌, ◌≤◌, ℕ, List, drop, get_or, length}
 use Rattle.bs_tree.specs.Tree.{forest, Tree, order}
 use Rattle.bs_tree.specs.Numbers.{density, density_of}
-use Rattle.bs_tree.proofs.Bounds.{density_more, left_le, small_numbers, density_pos}
+use Rattle.bs_tree.proofs.Bounds.{density_more, left_le, small_numbers, density_pos, tree_density_pos, factor_pos}
 use Rattle.bs_tree.proofs.tree.Tree.+density.Goals as goal
 use Rattle.bs_tree.specs.declared.TheConstants.{MAX_NODES}
 
@@ -16,5 +16,9 @@ step p i xs d t r h e k small inv =
 pub overflow_mul-product : goal.overflow_mul-product
 overflow_mul-product t c =
     let small : order c.args.self.now ≤ MAX_NODES = omega (arith, ap order c.self.view_is) in
-    let h = step c.children.product c.children.child-index c.deref-child-items.result.now c.child-item.result c.args.self.now c.density-product.result c.children-test.true c.density-product.ensures c.child-item.is small c.children.invariant in
+    let h = step c.children.product c.children.child-index c.deref-child-items.result.now c.child-item.result c.args.self.now c.density-product.result c.children-test.true c.density-product.ensures.value c.child-item.is small c.children.invariant in
     omega arith
+
+pub returns-clause-positive : goal.returns-clause-positive
+returns-clause-positive t c =
+    factor_pos c.children.product (density_of (forest (drop c.children.child-index c.deref-child-items.result.now))) (density c.args.self.now) (tree_density_pos c.args.self.now) c.children.invariant

@@ -1,11 +1,11 @@
-use Rattle.std.proofs.Common.{◌≡◌, ◌∙◌, refl, sym, ap, ap₂, arith, ◌+◌, ◌*◌, ◌<◌, ◌≤◌, ℕ, List, map, drop, get_or, length, subst, slice_get, IfSome, count_by}
+use Rattle.std.proofs.Common.{◌≡◌, ◌∙◌, refl, sym, ap, arith, ◌+◌, ◌*◌, ◌<◌, ◌≤◌, ℕ, List, map, drop, get_or, length, subst, slice_get, IfSome, count_by}
 use Rattle.std.proofs.lemmas.List.{length-map, length-drop}
 use Rattle.std.specs.Ordering.{is_eq}
-use Rattle.bs_tree.specs.Tree.{forest, trees, Tree, order, nodes}
+use Rattle.bs_tree.specs.Tree.{forest, trees, Tree, order}
 use Rattle.bs_tree.specs.Canonical.{canonical_sequence, sequence_cmp}
 use Rattle.bs_tree.specs.Numbers.{symmetry, symmetry_of, count_alike}
 use Rattle.bs_tree.proofs.Trees.{trees-forest, length_le-nodes}
-use Rattle.bs_tree.proofs.Bounds.{later_is, count_alike-le, symmetry_step, times_le, symmetry_pos, small_numbers}
+use Rattle.bs_tree.proofs.Bounds.{later_is, count_alike-le, symmetry_step, times_le, symmetry_pos, small_numbers, factor_pos}
 use Rattle.bs_tree.proofs.tree.Tree.+symmetry.Goals as goal
 use Rattle.bs_tree.specs.declared.TheConstants.{MAX_NODES}
 
@@ -47,7 +47,7 @@ scaled-product-requires-clause-fits t c =
     let u : Tree = record { colour = c.self.inside.colour; below = forest c.self.inside.children.items } in
     let e = codes_is c.child_codes-codes.result xs c.self.inside.children.items c.args.self.now u c.child_codes-codes.ensures c.self.view_is refl c.deref-child-items.ensures.value in
     let l = later_of c.child_codes-codes.result xs c.children.place c.child-item.result c.count_later-later.result e c.children-test.true c.child-item.is c.count_later-later.ensures in
-    let s = symmetry_step c.children.product c.children.place xs c.child-item.result c.args.self.now c.symmetry.result c.count_later-later.result c.children-test.true c.symmetry.ensures c.child-item.is l c.children.invariant in
+    let s = symmetry_step c.children.product c.children.place xs c.child-item.result c.args.self.now c.symmetry.result c.count_later-later.result c.children-test.true c.symmetry.ensures.value c.child-item.is l c.children.invariant in
     let small : order c.args.self.now ≤ MAX_NODES = omega (arith, ap order c.self.view_is) in
     omega (arith, times_le (c.children.product * c.symmetry.result * (c.count_later-later.result + 1)) (symmetry_of (forest (drop (c.children.place + 1) xs))) (symmetry c.args.self.now) (symmetry_pos (forest (drop (c.children.place + 1) xs))) s, (small_numbers c.args.self.now small).0)
 
@@ -57,5 +57,9 @@ children-preserved t c =
     let u : Tree = record { colour = c.self.inside.colour; below = forest c.self.inside.children.items } in
     let e = codes_is c.child_codes-codes.result xs c.self.inside.children.items c.args.self.now u c.child_codes-codes.ensures c.self.view_is refl c.deref-child-items.ensures.value in
     let l = later_of c.child_codes-codes.result xs c.children.place c.child-item.result c.count_later-later.result e c.children-test.true c.child-item.is c.count_later-later.ensures in
-    let s = symmetry_step c.children.product c.children.place xs c.child-item.result c.args.self.now c.symmetry.result c.count_later-later.result c.children-test.true c.symmetry.ensures c.child-item.is l c.children.invariant in
+    let s = symmetry_step c.children.product c.children.place xs c.child-item.result c.args.self.now c.symmetry.result c.count_later-later.result c.children-test.true c.symmetry.ensures.value c.child-item.is l c.children.invariant in
     ap (λ (n : ℕ). n * symmetry_of (forest (drop (c.children.place + 1) xs))) c.scaled-product.ensures ∙ s
+
+pub returns-clause-positive : goal.returns-clause-positive
+returns-clause-positive t c =
+    factor_pos c.children.product (symmetry_of (forest (drop c.children.place c.deref-child-items.result.now))) (symmetry c.args.self.now) (symmetry_pos c.args.self.now.below) c.children.invariant

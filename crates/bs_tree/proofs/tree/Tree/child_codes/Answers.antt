@@ -1,4 +1,4 @@
-use Rattle.std.proofs.Common.{◌≡◌, ◌∙◌, sym, ap, ap₂, arith, ◌<◌, ℕ, List, map, take, get_or, length}
+use Rattle.std.proofs.Common.{◌∙◌, sym, ap, arith, map, take, length}
 use Rattle.std.proofs.lemmas.List.{length-map, length-take-le, take_all}
 use Rattle.bs_tree.specs.Canonical.{canonical_sequence}
 use Rattle.bs_tree.specs.Tree.{trees, Tree}

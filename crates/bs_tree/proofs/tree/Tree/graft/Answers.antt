@@ -1,12 +1,12 @@
-use Rattle.std.proofs.Common.{◌≡◌, ◌∙◌, sym, ap, ap₂, arith, ◌++◌, ◌∷◌, [], List, ℕ, ◌+◌, ◌<◌, subst}
-use Rattle.bs_tree.specs.Tree.{trees, forest, Tree, Forest, nodes, order, Coloured}
+use Rattle.std.proofs.Common.{◌≡◌, ap, arith, ◌++◌, ◌∷◌, [], ◌<◌, subst}
+use Rattle.bs_tree.specs.Tree.{Tree, order, Coloured}
 use Rattle.bs_tree.proofs.Trees.{trees-forest, nodes_push, coloured_push}
 use Rattle.bs_tree.proofs.tree.Tree.graft.Goals as goal
 
 pub invariant_of-self : goal.invariant_of-self
 invariant_of-self c =
     let xs = c.self.inside.children.items in
-    let e : c.push.new.self.items ≡ xs ++ c.args.child ∷ [] = c.in-Ok.ensures.items in
+    let e : c.push_last.new.children.items ≡ xs ++ c.args.child ∷ [] = c.in-Ok.ensures.ok in
     let i = c.self.invariant in
     let root : c.args.child.colour < 4 = subst (λ (t : Tree). t.colour < 4) c.child.view_is c.child.invariant.root in
     let below : Coloured 4 c.args.child.below = subst (λ (t : Tree). Coloured 4 t.below) c.child.view_is c.child.invariant.coloured in
@@ -19,5 +19,5 @@ invariant_of-self c =
 
 pub returns-in-Ok-clause-ok : goal.returns-in-Ok-clause-ok
 returns-in-Ok-clause-ok c =
-    let e : c.push.new.self.items ≡ c.self.inside.children.items ++ c.args.child ∷ [] = c.in-Ok.ensures.items in
+    let e : c.push_last.new.children.items ≡ c.self.inside.children.items ++ c.args.child ∷ [] = c.in-Ok.ensures.ok in
     rw (← c.self.view_is, e, trees-forest c.self.inside.children.items)

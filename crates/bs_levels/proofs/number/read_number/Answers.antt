@@ -1,0 +1,20 @@
+use Rattle.std.proofs.Common.{◌≡◌, arith, sym, length, subst}
+use Rattle.bs_levels.proofs.Numbers.{IsRead, no_digit, read_step, read_done, no_start}
+use Rattle.bs_levels.proofs.number.read_number.Goals as goal
+
+pub returns-in_default : goal.returns-in_default
+returns-in_default c = no_digit c.args.limit c.bytes.value c.args.word.now c.bytes.byte-index c.bytes-test.true c.bytes.invariant.value_is c.in_default.ensures
+
+pub bytes-preserved : goal.bytes-preserved
+bytes-preserved c =
+    let e = c.in-Some.ensures in
+    rw e.1 (read_step c.args.limit c.bytes.value c.args.word.now c.bytes.byte-index c.bytes-test.true c.bytes.invariant e.0.0 e.0.1)
+
+pub returns : goal.returns
+returns c =
+    let w = c.args.word.now in
+    let e : c.bytes.byte-index ≡ length w = omega arith in
+    read_done c.args.limit c.bytes.value w (sym c.if-not-starts_well.ensures) (subst (IsRead c.args.limit c.bytes.value w) e c.bytes.invariant)
+
+pub returns-then-not-starts_well : goal.returns-then-not-starts_well
+returns-then-not-starts_well c = no_start c.args.limit c.args.word.now (sym c.if-not-starts_well.ensures)

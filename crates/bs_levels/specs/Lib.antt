@@ -1,0 +1,5 @@
+pub mod Words
+pub mod Levels
+pub mod Faults
+pub mod TreeText
+pub mod Laws

@@ -1,0 +1,8 @@
+//! Laws of the definitions: each function does nothing, and its contract is the law.
+
+ghost use Rattle.bs_reply.specs.Laws.{SaysTheOrder};
+
+/// The line with a tree's numbers says the order of that tree, where it says the length of its code.
+pub fn order_said_is_the_trees()
+    ensures { SaysTheOrder }
+{}

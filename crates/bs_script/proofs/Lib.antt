@@ -1,0 +1,5 @@
+pub mod Cuts
+pub mod Pieces
+pub mod Moves
+pub mod Prefix
+pub mod Examples

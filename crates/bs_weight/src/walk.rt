@@ -1,0 +1,77 @@
+//! The walk over a level sequence.
+
+ghost use Rattle.std.specs.Prelude.{◌≡◌, ℕ, suc, ◌<◌, ◌≤◌, [], ◌∷◌, length, All};
+ghost use Rattle.bs_frac.specs.Fraction.{whole};
+ghost use Rattle.bs_frac.specs.Written.{checked, product_all};
+ghost use Rattle.bs_tableau.specs.WrittenWeight.{edge_sum};
+ghost use Rattle.bs_weight.specs.Walk.{stage_in, MultipliesBy, MultipliesTrees};
+
+use bs_frac::{Acc, Coef, Frac};
+use bs_tableau::{MAX_STAGES, Tableau};
+
+/// One value for each stage; those past the tableau's stages are never read.
+pub type Stages = [Coef; MAX_STAGES];
+
+/// The empty products.
+pub fn ones() -> Stages
+    ensures value { (i : ℕ) → i < MAX_STAGES → stage_in result i ≡ checked.of (whole 1) }
+    ensures places { length result ≡ MAX_STAGES }
+{
+    [Coef::Value(Frac::whole(1)); MAX_STAGES]
+}
+
+/// Adds the product of an entry and a value.
+pub fn add_product(sum: &mut Acc, entry: Frac, value: Coef)
+    ensures { sum.new ≡ checked.sum sum.old (product_all checked (checked.of entry ∷ value ∷ [])) }
+{
+    sum.add_term(&[Coef::Value(entry), value]);
+}
+
+/// The sum over the stages of a child, as a node at stage `row` sees it.
+fn edge_sum(table: &Tableau, colour: usize, row: usize, child: &Stages) -> Coef
+    requires colour { colour < table.now.colours }
+    requires row { row < table.now.stages }
+    ensures { result ≡ edge_sum checked table.now colour row (stage_in child.now) }
+{
+    let mut sum = Acc::start();
+    'columns: for column in 0..table.stages() {
+        add_product(&mut sum, table.a(colour, row, column), child[column]);
+    }
+    sum.finish()
+}
+
+/// Multiplies the edge sums of a child of this colour into its parent's values.
+fn multiply_edge(table: &Tableau, colour: usize, values: &mut Stages, child: &Stages)
+    requires { colour < table.now.colours }
+    ensures values { MultipliesBy table.now.stages values.old values.new (λ i. edge_sum checked table.now colour i (stage_in child.now)) }
+    ensures few_stages { table.now.stages ≤ MAX_STAGES }
+{
+    'rows: for row in 0..table.stages() {
+        values[row] = values[row].times(&edge_sum(table, colour, row, child));
+    }
+}
+
+/// Multiplies the edge sums of the parent's children, with which the pairs begin, into the parent's
+/// values, and gives the pairs after them.
+pub fn multiply_children<'a>(
+    table: &Tableau,
+    parent: (u8, u8),
+    pairs: &'a [(u8, u8)],
+    values: &mut Stages,
+) -> &'a [(u8, u8)]
+    requires parent { parent.1 < table.now.colours }
+    requires colours { All (λ node. node.1 < table.now.colours) pairs.now }
+    ensures colours { All (λ node. node.1 < table.now.colours) result.now }
+    ensures shorter { length result.now ≤ length pairs.now }
+    ensures values { MultipliesTrees table.now (suc parent.0) pairs.now values.old values.new result.now }
+{
+    match pairs {
+        [node, below @ ..] if node.0 > parent.0 => {
+            let mut child = ones();
+            let behind = multiply_children(table, *node, below, &mut child);
+            multiply_edge(table, usize::from(node.1), values, &child);
+            multiply_children(table, parent, behind, values)
+        }
+        _ => pairs,
+    }
+}
