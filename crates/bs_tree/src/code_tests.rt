@@ -91,6 +91,8 @@ fn children_keep_their_colours(rt: HostRuntime) -> Result<(), Fail> {
     let expected = pairs_of(rt.alloc(), "12233", "31021")?;
     let code = code_of(rt.alloc(), "12332", "30121")?;
     assert_eq!(rt; code.pairs(), expected.as_slice());
+    assert_eq!(rt; code.order(), 5);
+    assert_eq!(rt; code.arity(), 2);
     assert_eq!(rt; code.colour(0), 3);
     assert_eq!(rt; code.colour(3), 2);
     assert_eq!(rt; code.density(), 15);
@@ -109,6 +111,7 @@ fn a_tree_of_a_code_has_that_code(rt: HostRuntime) -> Result<(), Fail> {
     ] {
         let pairs = pairs_of(rt.alloc(), levels, colours)?;
         let code = code_of(rt.alloc(), levels, colours)?;
+        assert!(rt; is_level_sequence(&pairs), "{levels} {colours}");
         let built = Tree::of_pairs(rt.alloc(), &pairs)?;
         let tree = code.tree(rt.alloc())?;
         assert_eq!(rt; tree.order(), levels.len());
