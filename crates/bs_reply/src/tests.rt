@@ -11,11 +11,8 @@ fn code_of(alloc: Global, levels: &str) -> Result<Code, Fail> {
     Ok(read_tree(alloc, levels.as_bytes(), None)?.code())
 }
 
-fn weight(number: &str) -> Result<Line<'static>, Fail> {
-    let value = Frac::read(number.as_bytes())?;
-    Ok(Line::Weight {
-        coef: Coef::Value(value),
-    })
+fn value(number: &str) -> Result<Coef, Fail> {
+    Ok(Coef::Value(Frac::read(number.as_bytes())?))
 }
 
 /// The lines, one behind the other.
@@ -81,10 +78,16 @@ fn numbers_of_trees(rt: HostRuntime) -> Result<(), Fail> {
 fn weights(rt: HostRuntime) -> Result<(), Fail> {
     let alloc = rt.alloc();
     let lines = [
-        weight("5/24")?,
-        weight("0")?,
-        weight("-1/2")?,
-        weight("170141183460469231731687303715884105727")?,
+        Line::Weight {
+            coef: value("5/24")?,
+        },
+        Line::Weight { coef: value("0")? },
+        Line::Weight {
+            coef: value("-1/2")?,
+        },
+        Line::Weight {
+            coef: value("170141183460469231731687303715884105727")?,
+        },
         Line::Weight {
             coef: Coef::Overflow,
         },
