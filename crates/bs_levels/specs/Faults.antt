@@ -1,6 +1,8 @@
 -- What a fault of reading a tree says of the words.
 --
 --   Fails e r  == e is the refusal that r is; want of memory comes only where r is a tree
+--
+-- Source: this project.
 use Rattle.std.specs.Prelude.{◌≡◌, Result, Err, IsOk}
 use Rattle.bs_tree.specs.Tree.{Tree}
 use Rattle.bs_levels.specs.Levels.{Refusal, bad_levels, bad_colours, too_large}

@@ -2,6 +2,8 @@
 --
 --   RefusalRestsOnItsPrefix == where an input is refused at a line for another reason than a missing end, each input
 --                              with the same lines up to that one is refused there for that reason
+--
+-- Source: this project.
 use Rattle.std.specs.Prelude.{◌≡◌, ◌≢◌, ℕ, List, ◌++◌, length, Err}
 use Rattle.bs_script.specs.Lines.{lines}
 use Rattle.bs_script.specs.Grammar.{script}

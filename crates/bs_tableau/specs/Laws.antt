@@ -2,6 +2,8 @@
 --
 --   IfValue c P     == P holds of the fraction that c is, if it is no overflow
 --   WrittenIsWeight == where the written weight is no overflow, it is the elementary weight
+--
+-- Source: Butcher (2021), elementary weights; the rule on overflow is this project's.
 use Rattle.bs_frac.specs.Fraction.{Fraction, SameFraction}
 use Rattle.bs_frac.specs.Written.{checked}
 use Rattle.bs_frac.specs.declared.coef.Coef.{Coef}
