@@ -227,6 +227,19 @@ product_zero_right m n a b h =
     let z = product_zero (not (beq m n)) (a / 1) (0 / b) (b / b) (1 / 1) e f in
     sym z.2 ∙ product_found m a b n 0 1 1 b (sym (gcd-one_right a)) (sym (gcd-swap 0 b ∙ gcd-zero b)) z.0 z.1
 
+-- ---- the product with one
+pub product_one_left : (s : Bool) (c d : ℕ) → c ≤ largest → d ≤ largest → checked_product (side false 1 1) (side s c d) ≡ Some (side s c d)
+unfolding side
+product_one_left s c d h k =
+    let e : 1 / 1 * (c / 1) ≡ c = omega (arith, div-one c) in
+    let f : 1 / 1 * (d / 1) ≡ d = omega (arith, div-one d) in
+    sym (product_found false 1 1 s c d 1 1 (sym (gcd-one d)) (sym (gcd-one_right c)) (rw e h) (rw f k))
+    ∙ ap₂ (λ (i j : ℕ). Some (side (not (beq false s)) i j)) e f ∙ ap (λ (t : Bool). Some (side t c d)) (go s)
+  where
+    go : (t : Bool) → not (beq false t) ≡ t
+    go true = refl
+    go false = refl
+
 -- the denominator of zero is 1
 pub zero_over_one : (n d : ℕ) → n ≡ 0 → gcd n d ≡ 1 → d ≡ 1
 zero_over_one n d e h = sym (gcd-zero d) ∙ gcd-swap d 0 ∙ ap (λ (i : ℕ). gcd i d) (sym e) ∙ h

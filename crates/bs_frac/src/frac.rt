@@ -1,7 +1,7 @@
 //! Fractions in lowest terms, a sign beside two magnitudes of at most M. Contracts see a `Frac` as its reduced pair.
 ghost use Rattle.std.specs.Prelude.{◌≡◌, ◌≢◌, ◌<◌, ◌↔◌, ◌<ℤ◌, IsTrue, IfOk, unsigned_abs, pos};
 ghost use Rattle.std.specs.Result.{result_ok};
-ghost use Rattle.bs_frac.specs.Fraction.{Fraction, IsReduced, opposite_of, reciprocal_of};
+ghost use Rattle.bs_frac.specs.Fraction.{Fraction, IsReduced, opposite_of, reciprocal_of, whole};
 ghost use Rattle.bs_frac.specs.Checked.{IsWithin, checked_sum, checked_difference, checked_product, checked_quotient, checked_fraction};
 
 use crate::gcd::gcd_of;
@@ -75,6 +75,12 @@ impl Frac {
         self.num == 0
     }
 
+    fn is_one(&self) -> bool
+        ensures { IsTrue result → self.now ≡ whole 1 }
+    {
+        self.num == 1 && self.den == 1 && !self.negative
+    }
+
     /// The reduced fraction. Overflow where its numerator or denominator exceeds `M`.
     pub fn new(negative: bool, num: u128, den: u128) -> Result<Frac, Overflow>
         requires { 0 < den }
@@ -146,6 +152,9 @@ impl Frac {
     {
         if self.num == 0 || other.num == 0 {
             return Ok(Frac::whole(0));
+        }
+        if self.is_one() {
+            return Ok(*other);
         }
         let left = gcd_of(self.num, other.den);
         let right = gcd_of(other.num, self.den);

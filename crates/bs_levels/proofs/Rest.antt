@@ -1,10 +1,11 @@
 -- What is left of a word after its first numbers.
-use Rattle.std.proofs.Common.{◌≡◌, ℕ, suc, ◌+◌, ◌≤◌, ◌<◌, Bool, true, false, cond, ◌&&◌, List, [], ◌∷◌, ◌++◌, Option, Some, None, length, leb, ltb, arith, refl, sym, ◌∙◌, ap, append_assoc, append-nil, length-append, zero-add, Bor, option_map}
-use Rattle.std.specs.Prelude.{IfSome, IsSomeAnd}
+use Rattle.std.proofs.Common.{◌≡◌, ℕ, suc, ◌+◌, ◌≤◌, ◌<◌, Bool, true, false, cond, ◌&&◌, List, [], ◌∷◌, ◌++◌, Option, Some, None, length, leb, ltb, arith, refl, sym, ◌∙◌, ap, subst, append_assoc, append-nil, length-append, zero-add, Bor, option_map}
+use Rattle.std.specs.Prelude.{IfSome}
 use Rattle.std.specs.Option.{option_map_or}
 use Rattle.std.specs.List.{list_all}
 use Rattle.bs_levels.specs.Words.{pieces, numbers, before, largest_level}
 use Rattle.bs_levels.specs.Levels.{node_count, climbs_by_one}
+use Rattle.bs_tree.specs.declared.TheConstants.{MAX_NODES}
 
 -- the parts that are left
 abbrev pub left : Option (Bor (List ℕ)) → List (List ℕ)
@@ -135,18 +136,35 @@ pub keeping_step : (limit : ℕ) (word items : List ℕ) (n : ℕ) (text : Bor (
     → numbers limit (pieces text.now) ≡ before (Some n) (numbers limit (left after)) → IsKeeping limit word (items ++ n ∷ []) after
 keeping_step limit word items n text after r e = record { kept = r.kept ∙ ap (option_map (λ ns. items ++ ns)) e ∙ keep_more n items (numbers limit (left after)) }
 
-room_for : (n : ℕ) (items : List ℕ) (most : ℕ) (o : Option (List ℕ)) → IsSomeAnd (option_map (λ ns. items ++ ns) (before (Some n) o)) (λ ns. length ns ≤ most) → length items < most
-room_for n items most None h = absurd h
-room_for n items most (Some ns) h = omega (arith, h, length-append items (n ∷ ns))
-
-pub keeping_room : (limit : ℕ) (word items : List ℕ) (n most : ℕ) (text : Bor (List ℕ)) (after : Option (Bor (List ℕ))) → IsKeeping limit word items (Some text)
-    → numbers limit (pieces text.now) ≡ before (Some n) (numbers limit (left after)) → IsSomeAnd (numbers limit (pieces word)) (λ ns. length ns ≤ most) → length items < most
-keeping_room limit word items n most text after r e h =
-    room_for n items most (numbers limit (left after)) (rw (r.kept ∙ ap (option_map (λ ns. items ++ ns)) e) at h)
-
-pub keeping_fails : {G : Type 0} (limit : ℕ) (word items : List ℕ) (most : ℕ) (text : Bor (List ℕ)) → IsKeeping limit word items (Some text) → numbers limit (pieces text.now) ≡ None
-    → IsSomeAnd (numbers limit (pieces word)) (λ ns. length ns ≤ most) → G
-keeping_fails limit word items most text r e h = absurd (rw (r.kept ∙ ap (option_map (λ ns. items ++ ns)) e) at h)
-
 pub keeping_ends : (limit : ℕ) (word items : List ℕ) → IsKeeping limit word items None → numbers limit (pieces word) ≡ Some items
 keeping_ends limit word items r = r.kept ∙ ap Some (append-nil items)
+
+-- ---- the numbers that are kept while there is room
+pub record IsColumn (limit : ℕ) (word items : List ℕ) (count : ℕ) (rest : Option (Bor (List ℕ))) : Type 0 where
+  pub kept : count ≤ MAX_NODES → IsKeeping limit word items rest
+  pub all : count ≤ MAX_NODES → length items ≡ count
+
+pub column_start : (limit : ℕ) (word : Bor (List ℕ)) (items : List ℕ) → items ≡ [] → IsColumn limit word.now items 0 (Some word)
+column_start limit word items e = record {
+  kept = λ h. subst (λ (xs : List ℕ). IsKeeping limit word.now xs (Some word)) (sym e) (keeping_start limit word);
+  all = λ h. ap length e;
+}
+
+pub column_step : (limit : ℕ) (word items new : List ℕ) (count n : ℕ) (text : Bor (List ℕ)) (after : Option (Bor (List ℕ))) → IsColumn limit word items count (Some text)
+    → numbers limit (pieces text.now) ≡ before (Some n) (numbers limit (left after)) → (length items < MAX_NODES → new ≡ items ++ n ∷ []) → IsColumn limit word new (count + 1) after
+column_step limit word items new count n text after r e put =
+    let grown : count + 1 ≤ MAX_NODES → new ≡ items ++ n ∷ [] = λ h. put (let k = r.all (omega arith) in omega arith) in
+    record {
+      kept = λ h. subst (λ (xs : List ℕ). IsKeeping limit word xs after) (sym (grown h)) (keeping_step limit word items n text after (r.kept (omega arith)) e);
+      all = λ h. omega (arith, ap length (grown h), length-append items (n ∷ []), r.all (omega arith));
+    }
+
+-- the first number of a word is kept
+pub column_first : (limit : ℕ) (word : Bor (List ℕ)) (empty items : List ℕ) (n : ℕ) (after : Option (Bor (List ℕ))) → numbers limit (pieces word.now) ≡ before (Some n) (numbers limit (left after))
+    → empty ≡ [] → items ≡ empty ++ n ∷ [] → IsColumn limit word.now items 1 after
+column_first limit word empty items n after e none put =
+    let r = column_step limit word.now empty items 0 n word after (column_start limit word empty none) e (λ h. put) in
+    record { kept = λ h. r.kept (omega arith); all = λ h. omega (arith, r.all (omega arith)) }
+
+pub column_end : (limit : ℕ) (word items : List ℕ) (count : ℕ) → IsColumn limit word items count None → count ≤ MAX_NODES → numbers limit (pieces word) ≡ Some items
+column_end limit word items count r h = keeping_ends limit word items (r.kept h)

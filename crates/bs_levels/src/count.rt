@@ -1,12 +1,14 @@
-//! Counting the numbers of a word, with no list of them.
+//! Reading the numbers of a word, with no list of more than MAX_NODES of them.
 
-ghost use Rattle.std.specs.Prelude.{◌≡◌, ◌<◌, ◌&&◌, suc, nat_lt, nat_le, [], length, Some, None, option_map, IfNone, IfSome};
+ghost use Rattle.std.specs.Prelude.{◌≡◌, ◌<◌, ◌≤◌, ◌++◌, ◌&&◌, suc, nat_lt, nat_le, [], ◌∷◌, length, Some, None, option_map, IfNone, IfSome};
 ghost use Rattle.std.specs.Option.{option_map_or};
 ghost use Rattle.bs_levels.specs.Words.{numbers, pieces, before, levels_of};
 ghost use Rattle.bs_levels.specs.Levels.{node_count};
 
 use crate::number::read_number;
 use crate::split::split_first;
+use arrayvec::ArrayVec;
+use bs_tree::MAX_NODES;
 
 /// The first number of a word, and what stands behind its comma, if there is one.
 pub(crate) fn first_number(word: &[u8], limit: u8) -> Option<(u8, Option<&[u8]>)>
@@ -22,20 +24,38 @@ pub(crate) fn first_number(word: &[u8], limit: u8) -> Option<(u8, Option<&[u8]>)
     }
 }
 
-/// How many numbers the word has, or None where it isn't a word of numbers up to `limit`.
-pub(crate) fn count_numbers(word: &[u8], limit: u8) -> Option<usize>
-    ensures { result ≡ option_map (λ ns. length ns) (numbers limit (pieces word.now)) }
+/// The numbers of a word: how many, and all of them where they are at most MAX_NODES.
+pub(crate) struct Column {
+    pub count: usize,
+    pub numbers: ArrayVec<u8, MAX_NODES>,
+}
+
+/// Puts the number last where there is room.
+fn keep(numbers: &mut ArrayVec<u8, MAX_NODES>, number: u8)
+    ensures { length numbers.old.items < MAX_NODES → numbers.new.items ≡ numbers.old.items ++ number ∷ [] }
 {
+    if !numbers.is_full() {
+        numbers.push(number);
+    }
+}
+
+/// The numbers of the word, or None where it isn't a word of numbers up to `limit`.
+pub(crate) fn read_numbers(word: &[u8], limit: u8) -> Option<Column>
+    ensures counted { option_map (λ column. column.count) result ≡ option_map (λ ns. length ns) (numbers limit (pieces word.now)) }
+    ensures kept { IfSome result (λ column. column.count ≤ MAX_NODES → numbers limit (pieces word.now) ≡ Some column.numbers.items) }
+{
+    let mut numbers = ArrayVec::new();
     let mut count = 0;
     let mut rest = Some(word);
     'numbers: while let Some(text) = rest {
-        let Some((_, after)) = first_number(text, limit) else {
+        let Some((number, after)) = first_number(text, limit) else {
             return None;
         };
+        keep(&mut numbers, number);
         count += 1;
         rest = after;
     }
-    Some(count)
+    Some(Column { count, numbers })
 }
 
 /// Above the first level, and at most one more than the last.
@@ -45,13 +65,16 @@ fn follows(first: u8, last: u8, level: u8) -> bool
     level > first && level - 1 <= last
 }
 
-/// How many nodes the levels describe, or None where they are no valid levels.
-pub(crate) fn count_levels(word: &[u8]) -> Option<usize>
-    ensures { result ≡ node_count (levels_of word.now) }
+/// The levels of the word, or None where they are no valid levels.
+pub(crate) fn read_levels(word: &[u8]) -> Option<Column>
+    ensures counted { option_map (λ column. column.count) result ≡ node_count (levels_of word.now) }
+    ensures kept { IfSome result (λ column. column.count ≤ MAX_NODES → levels_of word.now ≡ Some column.numbers.items) }
 {
     let Some((first, behind)) = first_number(word, u8::MAX) else {
         return None;
     };
+    let mut numbers = ArrayVec::new();
+    numbers.push(first);
     let mut last = first;
     let mut count = 1;
     let mut rest = behind;
@@ -62,9 +85,10 @@ pub(crate) fn count_levels(word: &[u8]) -> Option<usize>
         if !follows(first, last, level) {
             return None;
         }
+        keep(&mut numbers, level);
         last = level;
         count += 1;
         rest = after;
     }
-    Some(count)
+    Some(Column { count, numbers })
 }

@@ -12,5 +12,5 @@ mod tests;
 mod write;
 
 pub use laws::{written_codes_are_read, written_levels_are_read, written_words_are_read};
-pub use read::{LevelFault, read_tree};
+pub use read::{LevelFault, LevelRefusal, read_code, read_tree};
 pub use write::{write_colours, write_levels, write_tree};

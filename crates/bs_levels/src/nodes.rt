@@ -1,34 +1,16 @@
 //! The pairs (level, colour) of a tree from its words, at most MAX_NODES of them.
 
-ghost use Rattle.std.specs.Prelude.{◌≡◌, ◌+◌, ◌-◌, ◌<◌, ◌≤◌, suc, length, Some, IsTrue, IsSome, IsSomeAnd, replicate};
+ghost use Rattle.std.specs.Prelude.{◌≡◌, ◌+◌, ◌-◌, ◌<◌, ◌≤◌, suc, length, Some, None, IsTrue, IsSome, IfSome, IfNone, replicate};
 ghost use Rattle.std.specs.List.{zip};
 ghost use Rattle.std.specs.Option.{option_copied};
-ghost use Rattle.bs_levels.specs.Words.{numbers, pieces};
 ghost use Rattle.bs_levels.specs.Levels.{is_valid, from_one, colours_for};
 
-use crate::count::first_number;
+use crate::count::{Column, read_numbers};
 use arrayvec::ArrayVec;
 use bs_tree::MAX_NODES;
 
 /// The largest colour of a node.
-pub(crate) const LARGEST_COLOUR: u8 = 3;
-
-/// The numbers of a word that has at most MAX_NODES.
-pub(crate) fn column(word: &[u8], limit: u8) -> ArrayVec<u8, MAX_NODES>
-    requires { IsSomeAnd (numbers limit (pieces word.now)) (λ ns. length ns ≤ MAX_NODES) }
-    ensures { numbers limit (pieces word.now) ≡ Some result.items }
-{
-    let mut column = ArrayVec::new();
-    let mut rest = Some(word);
-    'numbers: while let Some(text) = rest {
-        let Some((number, after)) = first_number(text, limit) else {
-            return column;
-        };
-        column.push(number);
-        rest = after;
-    }
-    column
-}
+const LARGEST_COLOUR: u8 = 3;
 
 fn zeros(count: usize) -> ArrayVec<u8, MAX_NODES>
     requires { count ≤ MAX_NODES }
@@ -41,16 +23,27 @@ fn zeros(count: usize) -> ArrayVec<u8, MAX_NODES>
     zeros
 }
 
-/// The colours of this many nodes, 0 where no word is given.
-pub(crate) fn colour_column(colours: Option<&[u8]>, count: usize) -> ArrayVec<u8, MAX_NODES>
-    requires small { count ≤ MAX_NODES }
-    requires one_each { IsSome (colours_for count (option_copied colours)) }
-    ensures { colours_for count (option_copied colours.entry) ≡ Some result.items }
+/// The colours of this many nodes, 0 where no word is given; None where the word isn't one of as many colours.
+///
+/// Where there are more than MAX_NODES nodes, the colours are not all kept.
+pub(crate) fn colour_column(colours: Option<&[u8]>, count: usize) -> Option<ArrayVec<u8, MAX_NODES>>
+    ensures refused { IfNone result (colours_for count (option_copied colours.entry) ≡ None) }
+    ensures one_each { IfSome result (λ column. IsSome (colours_for count (option_copied colours.entry))) }
+    ensures kept { IfSome result (λ column. count ≤ MAX_NODES → colours_for count (option_copied colours.entry) ≡ Some column.items) }
 {
-    match colours {
-        None => zeros(count),
-        Some(word) => column(word, LARGEST_COLOUR),
-    }
+    let Some(word) = colours else {
+        return Some(zeros(count.min(MAX_NODES)));
+    };
+    let Some(
+        Column {
+            count: found,
+            numbers,
+        },
+    ) = read_numbers(word, LARGEST_COLOUR)
+    else {
+        return None;
+    };
+    if found == count { Some(numbers) } else { None }
 }
 
 /// The level where the first is counted as 1.

@@ -1,6 +1,8 @@
 //! Worked examples: the words that are read, what is written, and each refusal.
 
-use crate::{LevelFault, read_tree, write_colours, write_levels, write_tree};
+use crate::{
+    LevelFault, LevelRefusal, read_code, read_tree, write_colours, write_levels, write_tree,
+};
 use bs_tree::{Code, Tree};
 use std::alloc::Global;
 
@@ -50,6 +52,19 @@ fn trees_are_rewritten(rt: HostRuntime) {
             "at {levels}"
         );
     }
+}
+
+#[test]
+fn codes_are_read(rt: HostRuntime) {
+    let seventeen = b"1,2,2,2,2,2,2,2,2,2,2,2,2,2,2,2,2";
+    let expected = Code::of_pairs(&[(1, 0), (2, 1), (3, 2), (2, 0)]);
+    assert!(rt; read_code(b"7,8,8,9", Some(b"0,0,1,2")).ok() == expected);
+    assert!(rt;
+        read_code(b"7,8,9,8", None).ok() == Code::of_pairs(&[(1, 0), (2, 0), (3, 0), (2, 0)])
+    );
+    assert!(rt; read_code(b"1,3", Some(b"7")).err() == Some(LevelRefusal::BadLevels));
+    assert!(rt; read_code(seventeen, Some(b"0")).err() == Some(LevelRefusal::BadColours));
+    assert!(rt; read_code(seventeen, None).err() == Some(LevelRefusal::TooLarge));
 }
 
 #[test]

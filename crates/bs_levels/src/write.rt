@@ -8,8 +8,28 @@ use bs_tree::{Code, MAX_NODES};
 use itoa::Buffer;
 use std::alloc::AllocError;
 
+/// The most bytes that a number takes.
+const NUMBER_ROOM: usize = 3;
+
 /// The most bytes that a number and its comma take.
 const ITEM_ROOM: usize = 4;
+
+/// Appends a number in decimal digits; most are one digit. There is room.
+#[tactic(auto, using(std::proofs::lemmas::Fmt::decimal_digit))]
+fn push_number(number: u8, out: &mut Vec<u8>)
+    requires { vec_len out.old + NUMBER_ROOM ≤ vec_capacity out.old }
+    ensures written { out.new.items ≡ out.old.items ++ decimal number }
+    ensures len { vec_len out.new ≤ vec_len out.old + NUMBER_ROOM }
+    ensures capacity { vec_capacity out.old ≤ vec_capacity out.new }
+{
+    if number < 10 {
+        out.push(b'0' + number).unwrap();
+    } else {
+        let mut buffer = Buffer::new();
+        out.extend_from_slice(buffer.format(number).as_bytes())
+            .unwrap();
+    }
+}
 
 /// Appends a number, behind a comma unless it is the first. There is room.
 fn push_item(number: u8, is_first: bool, out: &mut Vec<u8>)
@@ -21,9 +41,7 @@ fn push_item(number: u8, is_first: bool, out: &mut Vec<u8>)
     if !is_first {
         out.push(b',').unwrap();
     }
-    let mut buffer = Buffer::new();
-    out.extend_from_slice(buffer.format(number).as_bytes())
-        .unwrap();
+    push_number(number, out);
 }
 
 /// Appends the levels of the pairs. There is room.

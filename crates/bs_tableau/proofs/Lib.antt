@@ -4,3 +4,4 @@ pub mod Lists
 pub mod Totals
 pub mod MapSums
 pub mod CheckedWeights
+pub mod Equal

@@ -1,10 +1,13 @@
 //! A tableau. A contract sees it as its `Table`.
 
-ghost use Rattle.std.specs.Prelude.{◌≡◌, ◌<◌, ◌≤◌};
+ghost use Rattle.std.specs.Prelude.{◌≡◌, ◌<◌, ◌≤◌, ◌↔◌, IsTrue, IfOk, map, take};
+ghost use Rattle.bs_tableau.specs.declared.TheConstants.{MAX_STAGES};
 ghost use Rattle.bs_tableau.specs.Table.{IsWhole, first_row, matrix_entry, weight_entry, shown};
 
+use crate::MAX_STAGES;
 use crate::builder::Row;
 use bs_frac::Frac;
+use std::alloc::{AllocError, Global};
 use std::marker::Model;
 
 /// A Runge-Kutta method of one or more colours.
@@ -35,6 +38,27 @@ impl Tableau {
             colours,
             rows,
         }
+    }
+
+    /// A copy.
+    pub fn try_clone(&self, alloc: Global) -> Result<Tableau, AllocError>
+        ensures { IfOk result (λ copy. copy ≡ self.now) }
+    {
+        let rows = Vec::from_slice(alloc, self.rows.as_slice())?;
+        Ok(Tableau {
+            stages: self.stages,
+            colours: self.colours,
+            rows,
+        })
+    }
+
+    /// Whether both have the same numbers of stages and colours and the same entries.
+    pub fn same(&self, other: &Tableau) -> bool
+        ensures { IsTrue result ↔ (self.now ≡ other.now) }
+    {
+        self.stages == other.stages
+            && self.colours == other.colours
+            && same_rows(self.stages, self.rows.as_slice(), other.rows.as_slice())
     }
 
     /// The number of stages.
@@ -79,4 +103,28 @@ impl Tableau {
     {
         self.rows[self.first_row(colour) + self.stages][stage]
     }
+}
+
+/// Whether the rows are the same as far as this number of stages.
+fn same_rows(stages: usize, left: &[Row], right: &[Row]) -> bool
+    requires { stages ≤ MAX_STAGES }
+    ensures { IsTrue result ↔ (map (take stages) left.now ≡ map (take stages) right.now) }
+{
+    if left.len() != right.len() {
+        return false;
+    }
+    'rows: for row in 0..left.len() {
+        if !same_row(stages, &left[row], &right[row]) {
+            return false;
+        }
+    }
+    true
+}
+
+/// Whether two rows are the same as far as this number of stages.
+fn same_row(stages: usize, left: &Row, right: &Row) -> bool
+    requires { stages ≤ MAX_STAGES }
+    ensures { IsTrue result ↔ (take stages left.now ≡ take stages right.now) }
+{
+    left[..stages] == right[..stages]
 }

@@ -77,6 +77,9 @@ alpha_is t =
     let e : alpha t ≡ d.0 = div-eq_of_eq-mul_left (weight_pos t) d.1 in
     d.1 ∙ ap (λ (q : ℕ). q * (symmetry t * density t)) (sym e)
 
+pub alpha_pos : (t : Tree) → 0 < alpha t
+alpha_pos t = factor_pos (alpha t) (symmetry t * density t) (factorial (order t)) (factorial_pos (order t)) (sym (alpha_is t))
+
 product_le : (F q w : ℕ) → 0 < F → F ≡ q * w → w ≤ F
 product_le F zero w h e = absurd (let z : F ≡ 0 = e ∙ omega arith in omega arith)
 product_le F (suc q) w h e = let z : F ≡ w + q * w = e ∙ omega arith in omega arith

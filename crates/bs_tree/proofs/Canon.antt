@@ -7,26 +7,11 @@ use Rattle.std.proofs.lemmas.Cmp.{tied_itself, nat_cmp_total}
 use Rattle.std.proofs.lemmas.Bool.Decides.{nat_tests}
 use Rattle.bs_tree.specs.Tree.{Forest, none, grow, Tree}
 use Rattle.bs_tree.specs.Canonical.{level_sequence, level_sequence_at}
-use Rattle.bs_tree.specs.Canonical.{tree_cmp, is_above, insert, sorted, canonical_sequence, IsCanonicalSequence, compare, sequence_cmp}
+use Rattle.bs_tree.specs.Canonical.{tree_cmp, sorted, canonical_sequence, IsCanonicalSequence, compare, sequence_cmp}
 use Rattle.bs_tree.specs.Isomorphic.{isomorphic}
 use Rattle.bs_tree.specs.OrderLaws.{compare_is, same_from_compare, sequence_total, then-equal_both, nat_cmp-equal}
-use Rattle.bs_tree.proofs.Sorting.{by_cases, insert_comm, upto_sorted, IsUpto, same_tree}
-use Rattle.bs_tree.proofs.Isomorphic.{sorted_from_isomorphic, isomorphic_from_sorted, sorted_tree}
-
-sorted-insert : (t : Tree) (f : Forest) → sorted (insert t f) ≡ insert (sorted_tree t.colour t.below) (sorted f)
-sorted-insert t none = refl
-sorted-insert t (grow d below more) =
-    let t' : Tree = sorted_tree t.colour t.below in
-    let v' : Tree = sorted_tree d below in
-    by_cases (is_above (record { colour = d; below = below }) t)
-    (λ e. rw e (ap (insert v') (sorted-insert t more) ∙ insert_comm v' t' (sorted more)))
-    (λ e. rw e refl)
-
-pub sorted-sorted : (f : Forest) → sorted (sorted f) ≡ sorted f
-sorted-sorted none = refl
-sorted-sorted (grow c kids rest) =
-    sorted-insert (sorted_tree c kids) (sorted rest)
-    ∙ ap₂ (λ (x y : Forest). let v : Tree = record { colour = c; below = x } in insert v y) (sorted-sorted kids) (sorted-sorted rest)
+use Rattle.bs_tree.specs.SortingLaws.{upto_sorted, sorted-sorted, IsUpto, same_tree}
+use Rattle.bs_tree.proofs.Isomorphic.{sorted_from_isomorphic, isomorphic_from_sorted}
 
 -- ---- isomorphic trees
 eqb_same : (a b : ℕ) → eqb a b ≡ true → a ≡ b

@@ -11,13 +11,14 @@ use Rattle.bs_tree.specs.Canonical.{level_sequence, level_sequence_at, canonical
 use Rattle.bs_tree.specs.Numbers.{density, density_of}
 use Rattle.bs_tree.specs.Code.{IsCode, tree_of, child_codes, deeper}
 use Rattle.bs_tree.specs.Subtrees.{forest_at, subtree_of, level_below, first_count, raised, sizes, IsSubtree}
-use Rattle.bs_tree.proofs.Sorting.{by_cases}
-use Rattle.bs_tree.proofs.Joins.{deeper-level_sequence_at, length-level_sequence_at}
+use Rattle.bs_tree.specs.SortingLaws.{by_cases}
+use Rattle.bs_tree.proofs.Joins.{deeper-level_sequence_at}
+use Rattle.bs_tree.specs.SubtreeLaws.{length-level_sequence_at}
 use Rattle.bs_tree.proofs.CodeOf.{canon_is_code}
 use Rattle.bs_tree.proofs.Bounds.{left_le, small_numbers}
-use Rattle.bs_tree.proofs.Divides.{nodes-sorted}
+use Rattle.bs_tree.specs.SortingLaws.{nodes-sorted}
 use Rattle.bs_tree.proofs.Trees.{length_le-nodes, forest-trees}
-use Rattle.bs_tree.proofs.Splits.{IsRest, step, start, subtree_within, greater_run}
+use Rattle.bs_tree.specs.SubtreeLaws.{IsRest, step, start, subtree_within, greater_run}
 use Rattle.bs_tree.proofs.CodeFacts.{code_subtree, code_written, code_within, child_written}
 use Rattle.bs_tree.specs.declared.TheConstants.{MAX_NODES}
 

@@ -9,17 +9,19 @@ use Rattle.bs_tree.specs.Canonical.{level_sequence, canonical_sequence, canonica
 use Rattle.bs_tree.specs.Code.{IsCode, tree_of, has_valid_levels, is_level_sequence, code_of_pairs, child_codes, root_colour, joined}
 use Rattle.bs_tree.specs.Subtrees.{subtree_of, IsSubtree}
 use Rattle.bs_tree.specs.OrderLaws.{sequence_total}
-use Rattle.bs_tree.proofs.Sorting.{by_cases}
+use Rattle.bs_tree.specs.SortingLaws.{by_cases}
 use Rattle.bs_tree.proofs.SortLists.{sort}
 use Rattle.bs_tree.proofs.Decreasing.{sort-IsSorted}
 use Rattle.bs_tree.proofs.Isomorphic.{sorted_tree}
-use Rattle.bs_tree.proofs.Canon.{sorted-sorted}
+use Rattle.bs_tree.specs.SortingLaws.{sorted-sorted}
 use Rattle.bs_tree.proofs.Trees.{forest-trees}
-use Rattle.bs_tree.proofs.Joins.{tree_of-level_sequence, length-level_sequence_at, joined-sequences, sequences}
+use Rattle.bs_tree.proofs.Joins.{joined-sequences, sequences}
+use Rattle.bs_tree.specs.SubtreeLaws.{tree_of-level_sequence}
+use Rattle.bs_tree.specs.SubtreeLaws.{length-level_sequence_at}
 use Rattle.bs_tree.proofs.CodeOf.{canon_is_code, sequences-sorted, exact}
 use Rattle.bs_tree.proofs.Levels.{levels_valid, colours_all, level_sequence_subtree}
-use Rattle.bs_tree.proofs.Splits.{subtree_within}
-use Rattle.bs_tree.proofs.Divides.{nodes-sorted}
+use Rattle.bs_tree.specs.SubtreeLaws.{subtree_within}
+use Rattle.bs_tree.specs.SortingLaws.{nodes-sorted}
 use Rattle.std.proofs.lemmas.List.Elements.{All-weaker}
 use Rattle.bs_tree.specs.declared.TheConstants.{MAX_NODES}
 

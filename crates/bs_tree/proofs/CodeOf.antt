@@ -1,22 +1,23 @@
 -- The sorted codes of the children, joined, are the canonical sequence.
-use Rattle.std.proofs.Common.{◌≡◌, ℕ, suc, ◌≤◌, ◌<◌, true, false, List, [], ◌∷◌, ◌++◌, map, refl, ap, sym, ◌∙◌, arith, IsPermutation, IsSorted}
-use Rattle.std.specs.List.{AllByRecursion}
+use Rattle.std.proofs.Common.{◌≡◌, ℕ, ◌≤◌, ◌<◌, true, false, List, [], ◌∷◌, map, refl, ap, sym, ◌∙◌, arith, IsPermutation, IsSorted}
 use Rattle.std.specs.Ordering.{flip_args, is_gt, is_eq}
 use Rattle.std.specs.declared.cmp.Ordering.{Ordering}
 use Rattle.std.specs.declared.cmp.Ordering.TheVariants.{Less, Equal, Greater}
 use Rattle.std.proofs.lemmas.Cmp.{tied_itself}
 use Rattle.bs_tree.specs.Tree.{Forest, none, grow, Tree, order, forest, Coloured}
-use Rattle.bs_tree.specs.Canonical.{level_sequence, level_sequence_at}
+use Rattle.bs_tree.specs.Canonical.{level_sequence}
 use Rattle.bs_tree.specs.Canonical.{insert, sorted, canonical_sequence, sequence_cmp, is_above}
 use Rattle.bs_tree.specs.Isomorphic.{isomorphic}
 use Rattle.bs_tree.specs.Code.{IsCode, joined}
 use Rattle.bs_tree.specs.OrderLaws.{sequence_total}
 use Rattle.bs_tree.proofs.SortLists.{put, sort, sorted_is}
-use Rattle.bs_tree.proofs.Sorting.{by_cases}
+use Rattle.bs_tree.specs.SortingLaws.{by_cases}
 use Rattle.bs_tree.proofs.Isomorphic.{sorted_tree}
-use Rattle.bs_tree.proofs.Joins.{sequences, joined-sequences, canonical_sequence-tree_of, length-level_sequence_at}
-use Rattle.bs_tree.proofs.Divides.{nodes-sorted}
+use Rattle.bs_tree.proofs.Joins.{sequences, joined-sequences, canonical_sequence-tree_of}
+use Rattle.bs_tree.specs.SubtreeLaws.{length-level_sequence_at}
+use Rattle.bs_tree.specs.SortingLaws.{nodes-sorted}
 use Rattle.bs_tree.proofs.Canon.{sequence_cmp-level_sequence, pair_sequence_equal, canon_is, isomorphic_from_canon, canon_from_isomorphic}
+use Rattle.bs_tree.specs.SubtreeLaws.{coloured_sequence}
 use Rattle.bs_tree.specs.declared.TheConstants.{MAX_NODES}
 
 pub exact : (s r : List (ℕ × ℕ)) → sequence_cmp s r ≡ Equal → s ≡ r
@@ -53,14 +54,6 @@ coloured-insert k t (grow e below more) c d h =
 pub coloured-sorted : (k : ℕ) (f : Forest) → Coloured k f → Coloured k (sorted f)
 coloured-sorted k none h = tt
 coloured-sorted k (grow c kids rest) h = coloured-insert k (sorted_tree c kids) (sorted rest) h.0 (coloured-sorted k kids h.1) (coloured-sorted k rest h.2)
-
-all_append : (xs ys : List (ℕ × ℕ)) → AllByRecursion (λ (p : ℕ × ℕ). p.1 < 4) xs → AllByRecursion (λ (p : ℕ × ℕ). p.1 < 4) ys → AllByRecursion (λ (p : ℕ × ℕ). p.1 < 4) (xs ++ ys)
-all_append [] ys h k = k
-all_append (x ∷ xs) ys h k = (h.0, all_append xs ys h.1 k)
-
-coloured_sequence : (l : ℕ) (f : Forest) → Coloured 4 f → AllByRecursion (λ (p : ℕ × ℕ). p.1 < 4) (level_sequence_at l f)
-coloured_sequence l none h = tt
-coloured_sequence l (grow c kids rest) h = (h.0, all_append (level_sequence_at (suc l) kids) (level_sequence_at l rest) (coloured_sequence (suc l) kids h.1) (coloured_sequence l rest h.2))
 
 pub canon_is_code : (t : Tree) → order t ≤ MAX_NODES → t.colour < 4 → Coloured 4 t.below → IsCode (canonical_sequence t)
 canon_is_code t small c h = record {

@@ -4,7 +4,7 @@ use Rattle.std.specs.declared.cmp.Ordering.{Ordering}
 use Rattle.std.specs.declared.cmp.Ordering.TheVariants.{Less, Equal, Greater}
 use Rattle.std.specs.Ordering.{ordering_reverse, is_gt, is_lt, flip_args}
 use Rattle.std.specs.Cmp.{IsTotalOrder}
-use Rattle.bs_tree.proofs.Sorting.{by_cases}
+use Rattle.bs_tree.specs.SortingLaws.{by_cases}
 use Rattle.bs_tree.proofs.SortLists.{put, sort}
 
 gt_not_lt : (o : Ordering) → is_gt o ≡ true → is_lt o ≡ false

@@ -6,9 +6,9 @@ use Rattle.bs_tree.specs.Tree.{Forest, none, grow, Tree, nodes, order}
 use Rattle.bs_tree.specs.Canonical.{insert, sorted, is_above}
 use Rattle.bs_tree.specs.Isomorphic.{isomorphic}
 use Rattle.bs_tree.specs.Numbers.{count_alike, symmetry_of, density_of, symmetry, density, factorial}
-use Rattle.bs_tree.proofs.Sorting.{by_cases}
+use Rattle.bs_tree.specs.SortingLaws.{by_cases, nodes-sorted, sorted-sorted}
 use Rattle.bs_tree.proofs.Isomorphic.{sorted_tree}
-use Rattle.bs_tree.proofs.Canon.{isomorphic_refl, isomorphic_sym, isomorphic_trans, isomorphic_from, alike, sorted-sorted}
+use Rattle.bs_tree.proofs.Canon.{isomorphic_refl, isomorphic_sym, isomorphic_trans, isomorphic_from, alike}
 
 -- ---- factorials
 add_lem : (a b k m A B F n : ℕ) → suc n ≡ suc a + suc b → F ≡ k * (A * (suc b * B)) → F ≡ m * ((suc a * A) * B) → suc n * F ≡ (k + m) * ((suc a * A) * (suc b * B))
@@ -137,18 +137,6 @@ weight-insert t (grow d below more) =
     (λ k. let k' : isomorphic v t ≡ false = iso_flip v t ∙ k in
     rw (k, k') (swap_false (weight v) (suc (count_alike v more)) (weight t) (suc (count_alike t more)) (weight_of more)))))
     (λ e. rw e refl)
-
-nodes-insert : (t : Tree) (f : Forest) → nodes (insert t f) ≡ order t + nodes f
-nodes-insert t none = refl
-nodes-insert t (grow d below more) =
-    by_cases (is_above (record { colour = d; below = below }) t)
-    (λ e. rw e (ap (λ (i : ℕ). suc (nodes below) + i) (nodes-insert t more) ∙ omega arith))
-    (λ e. rw e refl)
-
-pub nodes-sorted : (f : Forest) → nodes (sorted f) ≡ nodes f
-nodes-sorted none = refl
-nodes-sorted (grow c kids rest) =
-    nodes-insert (sorted_tree c kids) (sorted rest) ∙ ap₂ (λ (i j : ℕ). suc i + j) (nodes-sorted kids) (nodes-sorted rest)
 
 weight-sorted : (f : Forest) → weight_of (sorted f) ≡ weight_of f
 weight-sorted none = refl

@@ -5,10 +5,10 @@ use Rattle.bs_tree.specs.Tree.{Forest, none, grow, Tree, nodes, order}
 use Rattle.bs_tree.specs.Canonical.{insert, sorted, is_above}
 use Rattle.bs_tree.specs.Isomorphic.{isomorphic}
 use Rattle.bs_tree.specs.Numbers.{symmetry_of, density_of, symmetry, density, alpha, factorial}
-use Rattle.bs_tree.proofs.Sorting.{by_cases}
+use Rattle.bs_tree.specs.SortingLaws.{by_cases, nodes-sorted}
 use Rattle.bs_tree.proofs.Isomorphic.{sorted_tree}
 use Rattle.bs_tree.proofs.Canon.{alike}
-use Rattle.bs_tree.proofs.Divides.{nodes-sorted, order_same, weight, weight_is, weight_same}
+use Rattle.bs_tree.proofs.Divides.{order_same, weight, weight_is, weight_same}
 use Rattle.bs_tree.proofs.Bounds.{density_pos}
 
 density-insert : (t : Tree) (f : Forest) → density_of (insert t f) ≡ density t * density_of f

@@ -8,7 +8,7 @@ use Rattle.std.proofs.lemmas.Cmp.{tied_itself}
 use Rattle.bs_tree.specs.Tree.{Forest, none, grow, Tree}
 use Rattle.bs_tree.specs.Canonical.{tree_cmp, is_above, insert, sorted}
 use Rattle.bs_tree.specs.Isomorphic.{is_empty, take_first, isomorphic_lists}
-use Rattle.bs_tree.proofs.Sorting.{by_cases, insert_comm, insert_inj, same_tree, tree_total}
+use Rattle.bs_tree.specs.SortingLaws.{by_cases, insert_comm, insert_inj, same_tree, tree_total}
 
 by_option : {G : Type 0} (o : Option Forest) → (o ≡ None → G) → ((f : Forest) → o ≡ Some f → G) → G
 by_option None p q = p refl

@@ -7,7 +7,8 @@ use Rattle.std.proofs.lemmas.List.Sorted.{IsPermutation-refl}
 use Rattle.bs_tree.specs.Tree.{Tree, nodes, forest, Coloured}
 use Rattle.bs_tree.specs.Canonical.{canonical_sequence, canonical_of, sequence_cmp}
 use Rattle.bs_tree.specs.Code.{IsCode, tree_of, child_codes, root_colour, joined}
-use Rattle.bs_tree.proofs.Joins.{tree_of-level_sequence, sequences}
+use Rattle.bs_tree.proofs.Joins.{sequences}
+use Rattle.bs_tree.specs.SubtreeLaws.{tree_of-level_sequence}
 use Rattle.bs_tree.proofs.CodeOf.{joined_is, canon_is_code, sorted_codes}
 use Rattle.bs_tree.proofs.CodeFacts.{code_within, code_kids, all_sequences}
 use Rattle.bs_tree.specs.declared.TheConstants.{MAX_NODES}

@@ -1,60 +1,17 @@
 -- Sequences and the trees that they describe.
-use Rattle.std.proofs.Common.{◌≡◌, ℕ, suc, zero, ◌+◌, ◌≤◌, ◌<◌, true, false, ltb, List, [], ◌∷◌, ◌++◌, length, take, get_or, map, All, refl, ap, ap₂, subst, sym, ◌∙◌, arith, append_assoc, append-nil, length-append, IsTrue}
-use Rattle.std.proofs.lemmas.Bool.Decides.{nat_tests}
+use Rattle.std.proofs.Common.{◌≡◌, ℕ, suc, zero, ◌+◌, ◌≤◌, ◌<◌, List, [], ◌∷◌, ◌++◌, length, take, get_or, map, All, refl, ap, ap₂, subst, sym, ◌∙◌, arith, append_assoc, append-nil, length-append, IsTrue}
 use Rattle.std.proofs.lemmas.List.{take_more, map-append}
 use Rattle.std.specs.List.{AllByRecursion}
 use Rattle.std.proofs.lemmas.List.Elements.{All-nil, All-cons, All-append}
 use Rattle.bs_tree.specs.Tree.{Forest, none, grow, Tree, nodes, trees}
 use Rattle.bs_tree.specs.Canonical.{level_sequence, level_sequence_at}
 use Rattle.bs_tree.specs.Canonical.{sorted, canonical_sequence}
-use Rattle.bs_tree.specs.Code.{IsCode, Parsed, parse, tree_of, deeper, all_deeper, joined}
+use Rattle.bs_tree.specs.Code.{IsCode, tree_of, deeper, all_deeper, joined}
 use Rattle.bs_tree.specs.Isomorphic.{isomorphic}
-use Rattle.bs_tree.proofs.Canon.{sorted-sorted, isomorphic_canonical}
+use Rattle.bs_tree.proofs.Canon.{isomorphic_canonical}
+use Rattle.bs_tree.specs.SortingLaws.{sorted-sorted}
+use Rattle.bs_tree.specs.SubtreeLaws.{tree_of-level_sequence, length-level_sequence_at}
 use Rattle.bs_tree.specs.declared.TheConstants.{MAX_NODES}
-
-abbrev IsLow : ℕ → List (ℕ × ℕ) → Type 0
-IsLow l [] = Unit {0}
-IsLow l (x ∷ xs) = x.0 < l
-
-low_more : (l : ℕ) (x : List (ℕ × ℕ)) → IsLow l x → IsLow (suc l) x
-low_more l [] h = tt
-low_more l (p ∷ xs) h = omega arith
-
-low_rest : (l : ℕ) (f : Forest) (x : List (ℕ × ℕ)) → IsLow l x → IsLow (suc l) (level_sequence_at l f ++ x)
-low_rest l none x h = low_more l x h
-low_rest l (grow c kids rest) x h = omega arith
-
-below : (m n : ℕ) → m < n → ltb m n ≡ true
-below m n h = grind (arith, nat_tests)
-
-not_below : (n : ℕ) → ltb n n ≡ false
-not_below n = grind (arith, nat_tests)
-
-parse_nothing : (fuel l : ℕ) (x : List (ℕ × ℕ)) → IsLow l x → parse fuel l x ≡ (let r : Parsed = record { found = none; left = x } in r)
-parse_nothing zero l x h = refl
-parse_nothing (suc fuel) l [] h = refl
-parse_nothing (suc fuel) l (p ∷ ps) h = rw (below p.0 l h) refl
-
-pub parse_sequence : (fuel l : ℕ) (f : Forest) (x : List (ℕ × ℕ)) → nodes f ≤ fuel → IsLow l x
-    → parse fuel l (level_sequence_at l f ++ x) ≡ (let r : Parsed = record { found = f; left = x } in r)
-parse_sequence fuel l none x h low = parse_nothing fuel l x low
-parse_sequence zero l (grow c kids rest) x h low = absurd (omega arith)
-parse_sequence (suc fuel) l (grow c kids rest) x h low =
-    let k = parse_sequence fuel (suc l) kids (level_sequence_at l rest ++ x) (omega arith) (low_rest l rest x low) in
-    let r = parse_sequence fuel l rest x (omega arith) low in
-    rw (not_below l, append_assoc (level_sequence_at (suc l) kids) (level_sequence_at l rest) x, k, r) refl
-
-pub length-level_sequence_at : (l : ℕ) (f : Forest) → length (level_sequence_at l f) ≡ nodes f
-length-level_sequence_at l none = refl
-length-level_sequence_at l (grow c kids rest) =
-    omega (arith, length-append (level_sequence_at (suc l) kids) (level_sequence_at l rest), length-level_sequence_at (suc l) kids, length-level_sequence_at l rest)
-
-pub tree_of-level_sequence : (t : Tree) → tree_of (level_sequence t) ≡ t
-tree_of-level_sequence t =
-    let e = parse_sequence (length (level_sequence_at 2 t.below)) 2 t.below [] (omega (arith, length-level_sequence_at 2 t.below)) tt in
-    let e' : parse (length (level_sequence_at 2 t.below)) 2 (level_sequence_at 2 t.below) ≡ (let r : Parsed = record { found = t.below; left = [] } in r) =
-    ap (parse (length (level_sequence_at 2 t.below)) 2) (sym (append-nil (level_sequence_at 2 t.below))) ∙ e in
-    ap (λ (r : Parsed). let u : Tree = record { colour = t.colour; below = r.found } in u) e'
 
 pub canonical_sequence-tree_of : (t : Tree) → canonical_sequence (tree_of (canonical_sequence t)) ≡ canonical_sequence t
 canonical_sequence-tree_of t =

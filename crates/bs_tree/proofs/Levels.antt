@@ -6,7 +6,7 @@ use Rattle.bs_tree.specs.Tree.{Forest, none, grow, Tree}
 use Rattle.bs_tree.specs.Canonical.{level_sequence, level_sequence_at}
 use Rattle.bs_tree.specs.Code.{Parsed, parse, tree_of, follows, has_valid_levels, is_level_sequence}
 use Rattle.bs_tree.specs.Subtrees.{forest_at, subtree_of, IsSubtree}
-use Rattle.bs_tree.proofs.Sorting.{by_cases}
+use Rattle.bs_tree.specs.SortingLaws.{by_cases}
 use Rattle.bs_tree.specs.declared.TheConstants.{MAX_NODES}
 
 -- ---- reading pairs, and writing the trees again

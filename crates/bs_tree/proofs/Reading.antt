@@ -1,18 +1,16 @@
 -- The loops that read the children of a root one after the other.
-use Rattle.std.proofs.Common.{leb, ◌&&◌, ◌≡◌, ℕ, suc, ◌+◌, ◌-◌, ◌≤◌, ◌<◌, true, false, ltb, List, [], ◌∷◌, ◌++◌, length, take, drop, map, get_or, refl, ap, ap₂, subst, sym, ◌∙◌, arith, append_assoc, append-nil, length-append, IsPermutation, IsSorted}
+use Rattle.std.proofs.Common.{leb, ◌&&◌, ◌≡◌, ℕ, suc, ◌+◌, ◌-◌, ◌<◌, true, false, ltb, List, [], ◌∷◌, ◌++◌, length, take, drop, get_or, refl, ap, ap₂, subst, sym, ◌∙◌, arith, append_assoc, append-nil}
 use Rattle.std.specs.List.{prefix_len}
-use Rattle.std.specs.Ordering.{flip_args}
 use Rattle.std.proofs.lemmas.Bool.{and_parts, and_from, both_ways}
-use Rattle.bs_tree.proofs.Sorting.{by_cases}
-use Rattle.std.proofs.lemmas.List.{length-map, take_all}
-use Rattle.bs_tree.specs.Tree.{Forest, Tree, nodes, trees, forest}
-use Rattle.bs_tree.specs.Canonical.{canonical_sequence, sequence_cmp}
-use Rattle.bs_tree.specs.Code.{IsCode, joined, follows}
+use Rattle.bs_tree.specs.SortingLaws.{by_cases}
+use Rattle.std.proofs.lemmas.List.{take_all}
+use Rattle.bs_tree.specs.Tree.{Forest, Tree, trees, forest}
+use Rattle.bs_tree.specs.Canonical.{canonical_sequence}
+use Rattle.bs_tree.specs.Code.{IsCode, follows}
 use Rattle.bs_tree.specs.Subtrees.{forest_at, subtree_of, level_below, first_count, IsSubtree}
-use Rattle.bs_tree.proofs.Trees.{forest-trees, length_le-nodes}
-use Rattle.bs_tree.proofs.CodeOf.{joined_is, canon_is_code}
-use Rattle.bs_tree.proofs.Splits.{IsRest, IsStep, step, at_end, subtree_within}
-use Rattle.bs_tree.specs.declared.TheConstants.{MAX_NODES}
+use Rattle.bs_tree.proofs.Trees.{forest-trees}
+use Rattle.bs_tree.proofs.CodeOf.{canon_is_code}
+use Rattle.bs_tree.specs.SubtreeLaws.{IsRest, IsStep, step, at_end, subtree_within}
 
 -- ---- the first tree
 pub first_count_by : (ps : List (ℕ × ℕ)) (n : ℕ) → 0 < length ps → n ≡ prefix_len (λ (q : ℕ × ℕ). ltb (get_or ps 0 (0, 0)).0 q.0) (take (length ps - 1) (drop 1 ps)) → 1 + n ≡ first_count ps
@@ -38,44 +36,12 @@ subtree_colour ps h = let w = subtree_within ps h in let e = root_colour_is ps h
 abbrev pub Reads : List Tree → List (ℕ × ℕ) → List (ℕ × ℕ) → Type 0
 Reads done ps rest = done ++ trees (forest_at (level_below ps) rest) ≡ trees (subtree_of ps).below
 
-abbrev pub ReadsCodes : List (List (ℕ × ℕ)) → List (ℕ × ℕ) → List (ℕ × ℕ) → Type 0
-ReadsCodes codes ps rest = codes ++ map canonical_sequence (trees (forest_at (level_below ps) rest)) ≡ map canonical_sequence (trees (subtree_of ps).below)
-
 pub more_trees : (ps rest first later : List (ℕ × ℕ)) (done : List Tree) → IsStep ps rest first later → Reads done ps rest → Reads (done ++ subtree_of first ∷ []) ps later
 more_trees ps rest first later done s h =
     append_assoc done (subtree_of first ∷ []) (trees (forest_at (level_below ps) later)) ∙ ap (λ (ts : List Tree). done ++ ts) (sym s.parts) ∙ h
 
-pub more_codes : (ps rest first later : List (ℕ × ℕ)) (codes : List (List (ℕ × ℕ))) → IsStep ps rest first later → ReadsCodes codes ps rest → ReadsCodes (codes ++ canonical_sequence (subtree_of first) ∷ []) ps later
-more_codes ps rest first later codes s h =
-    append_assoc codes (canonical_sequence (subtree_of first) ∷ []) (map canonical_sequence (trees (forest_at (level_below ps) later)))
-    ∙ ap (λ (ts : List Tree). codes ++ map canonical_sequence ts) (sym s.parts) ∙ h
-
-pub room : (ps rest first later : List (ℕ × ℕ)) (codes : List (List (ℕ × ℕ))) → IsSubtree ps → IsStep ps rest first later → ReadsCodes codes ps rest → length codes < MAX_NODES
-room ps rest first later codes whole s h =
-    let w = subtree_within ps whole in
-    let below = (subtree_of ps).below in
-    let left = trees (forest_at (level_below ps) rest) in
-    let e1 : length codes + length (map canonical_sequence left) ≡ length (map canonical_sequence (trees below)) = sym (length-append codes (map canonical_sequence left)) ∙ ap length h in
-    let e2 = length-map left canonical_sequence in
-    let e3 = length-map (trees below) canonical_sequence in
-    let e4 : length left ≡ suc (length (trees (forest_at (level_below ps) later))) = ap length s.parts in
-    let e5 : length (trees below) ≤ nodes below = let k = length_le-nodes (trees below) in rw forest-trees at k in
-    let e6 = w.0 in
-    let e7 = whole.small in
-    omega (arith, e1, e2, e3, e4, e5, e6, e7)
-
 pub all_trees : (ps rest : List (ℕ × ℕ)) (done : List Tree) → length rest ≡ 0 → Reads done ps rest → done ≡ trees (subtree_of ps).below
 all_trees ps rest done e h = sym (append-nil done) ∙ ap (λ (ts : List Tree). done ++ ts) (sym (at_end ps rest e)) ∙ h
-
-all_codes : (ps rest : List (ℕ × ℕ)) (codes : List (List (ℕ × ℕ))) → length rest ≡ 0 → ReadsCodes codes ps rest → codes ≡ map canonical_sequence (trees (subtree_of ps).below)
-all_codes ps rest codes e h = sym (append-nil codes) ∙ ap (λ (ts : List Tree). codes ++ map canonical_sequence ts) (sym (at_end ps rest e)) ∙ h
-
-pub whole_code : (ps rest : List (ℕ × ℕ)) (codes sorted_codes : List (List (ℕ × ℕ))) → IsSubtree ps → length rest ≡ 0 → ReadsCodes codes ps rest → IsPermutation codes sorted_codes → IsSorted (flip_args sequence_cmp) sorted_codes
-    → joined (get_or ps 0 (0, 0)).1 sorted_codes ≡ canonical_sequence (subtree_of ps)
-whole_code ps rest codes sorted_codes whole e h p s =
-    let t = subtree_of ps in
-    let q : IsPermutation (map canonical_sequence (trees t.below)) sorted_codes = subst (λ (cs : List (List (ℕ × ℕ))). IsPermutation cs sorted_codes) (all_codes ps rest codes e h) p in
-    ap (λ (c : ℕ). joined c sorted_codes) (root_colour_is ps whole.some) ∙ joined_is t (trees t.below) sorted_codes (sym (forest-trees t.below)) q s
 
 pub whole_is_code : (ps : List (ℕ × ℕ)) → IsSubtree ps → IsCode (canonical_sequence (subtree_of ps))
 whole_is_code ps whole = let w = subtree_within ps whole in canon_is_code (subtree_of ps) (let k = whole.small in omega (arith, w.0)) w.1 w.2

@@ -9,7 +9,7 @@ use Rattle.bs_tree.specs.Isomorphic.{isomorphic}
 use Rattle.bs_tree.specs.Canonical.{level_sequence, sorted, sequence_cmp, canonical_sequence, canonical_of, IsCanonicalSequence}
 use Rattle.bs_tree.proofs.Canon.{same_tree_from_sequence, isomorphic_canonical, canon_is}
 use Rattle.bs_tree.proofs.CodeOf.{sorted_codes, coloured-sorted}
-use Rattle.bs_tree.proofs.Divides.{nodes-sorted}
+use Rattle.bs_tree.specs.SortingLaws.{nodes-sorted}
 use Rattle.bs_tree.proofs.Trees.{forest-trees}
 
 same_trees : (ts us : List Tree) → map level_sequence ts ≡ map level_sequence us → ts ≡ us

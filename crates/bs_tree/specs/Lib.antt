@@ -6,6 +6,12 @@ pub mod Code
 pub mod Subtrees
 pub mod CodeBack
 pub mod OrderLaws
+pub mod SortingLaws
+pub mod ListLaws
+pub mod SubtreeLaws
+pub mod Insertion
+pub mod InsertionLaws
+pub mod Pruned
 pub mod CodeEquality
 pub mod CodeLaws
 pub mod Numbers

@@ -11,7 +11,7 @@ use Rattle.bs_tree.specs.Canonical.{level_sequence_at}
 use Rattle.bs_tree.specs.Canonical.{pair_cmp, sequence_cmp, compare}
 
 -- nothing, or a list that begins below this level
-abbrev IsLow : ℕ → List (ℕ × ℕ) → Type 0
+abbrev pub IsLow : ℕ → List (ℕ × ℕ) → Type 0
 IsLow l [] = Unit {0}
 IsLow l (x ∷ xs) = x.0 < l
 
@@ -21,10 +21,10 @@ nat_cmp-less m n h = grind (arith, nat_tests)
 nat_cmp-greater : (m n : ℕ) → n < m → nat_cmp m n ≡ Greater
 nat_cmp-greater m n h = grind (arith, nat_tests)
 
-nat_cmp-same : (n : ℕ) → nat_cmp n n ≡ Equal
+pub nat_cmp-same : (n : ℕ) → nat_cmp n n ≡ Equal
 nat_cmp-same n = tied_itself nat_cmp_total n
 
-then_assoc : (a b c : Ordering) → ordering_then (ordering_then a b) c ≡ ordering_then a (ordering_then b c)
+pub then_assoc : (a b c : Ordering) → ordering_then (ordering_then a b) c ≡ ordering_then a (ordering_then b c)
 then_assoc Less b c = refl
 then_assoc Equal b c = refl
 then_assoc Greater b c = refl

@@ -6,11 +6,15 @@
 --   first_count ps      == how many pairs the first tree has: its root, and the greater levels behind it
 --   IsSubtree ps        == the whole list is the level sequence of subtree_of ps, at its level, within the bounds of a code
 --   raised ps           == the pairs, each one level less
+--   tree_at ps node     == the tree whose root is at this place of the list, counted from 0
 --   sizes ps            == the product of first_count over all ends of the list: each node's number of descendants, with itself
+--   repeats first ps    == how often the list begins with `first`, one time behind the other
+--   later_same ps       == how often the pairs of the first tree come again right behind it
+--   class_sizes ps      == the product of one plus later_same over all ends of the list
 --
 -- Source: this project's own.
-use Rattle.std.specs.Prelude.{◌≡◌, ℕ, suc, ◌-◌, ◌*◌, ◌<◌, ◌≤◌, List, [], ◌∷◌, length, drop, map, nat_lt}
-use Rattle.std.specs.List.{AllByRecursion, prefix_len}
+use Rattle.std.specs.Prelude.{◌≡◌, ℕ, zero, suc, ◌-◌, ◌*◌, ◌<◌, ◌≤◌, ◌==◌, ◌&&◌, Bool, cond, List, [], ◌∷◌, length, take, drop, map, nat_lt}
+use Rattle.std.specs.List.{AllByRecursion, prefix_len, starts_with}
 use Rattle.bs_tree.specs.Tree.{Forest, none, Tree}
 use Rattle.bs_tree.specs.Canonical.{level_sequence_at}
 use Rattle.bs_tree.specs.Code.{parse}
@@ -37,9 +41,30 @@ pub record IsSubtree (ps : List (ℕ × ℕ)) : Type 0 where
   pub small : length ps ≤ MAX_NODES
   pub colours : AllByRecursion (λ p. p.1 < COLOURS) ps
 
+abbrev pub tree_at : List (ℕ × ℕ) → ℕ → Tree
+tree_at ps node = subtree_of (take (first_count (drop node ps)) (drop node ps))
+
 abbrev pub raised : List (ℕ × ℕ) → List (ℕ × ℕ)
 raised ps = map (λ p. (p.0 - 1, p.1)) ps
 
 abbrev pub sizes : List (ℕ × ℕ) → ℕ
 sizes [] = 1
 sizes (p ∷ ps) = first_count (p ∷ ps) * sizes ps
+
+abbrev pub same_pair : ℕ × ℕ → ℕ × ℕ → Bool
+same_pair p q = (p.0 == q.0) && (p.1 == q.1)
+
+-- at most `most` times
+abbrev pub repeats_within : ℕ → List (ℕ × ℕ) → List (ℕ × ℕ) → ℕ
+repeats_within zero first ps = 0
+repeats_within (suc most) first ps = cond (starts_with same_pair ps first) (suc (repeats_within most first (drop (length first) ps))) 0
+
+abbrev pub repeats : List (ℕ × ℕ) → List (ℕ × ℕ) → ℕ
+repeats first ps = repeats_within (length ps) first ps
+
+abbrev pub later_same : List (ℕ × ℕ) → ℕ
+later_same ps = repeats (take (first_count ps) ps) (drop (first_count ps) ps)
+
+abbrev pub class_sizes : List (ℕ × ℕ) → ℕ
+class_sizes [] = 1
+class_sizes (p ∷ ps) = suc (later_same (p ∷ ps)) * class_sizes ps

@@ -2,21 +2,27 @@
 //!
 //! Contracts see a `Code` as its list of pairs (level, colour). Each is the canonical sequence of a tree of 1 to MAX_NODES
 //! nodes with colours below 4. No call takes memory but `tree`.
-ghost use Rattle.std.specs.Prelude.{◌≡◌, ◌<◌, ◌≤◌, All, [], ◌∷◌, length, slice_get, IfSome, IfOk, Some};
+ghost use Rattle.std.specs.Prelude.{◌≡◌, ◌<◌, ◌≤◌, ◌↔◌, IsTrue, All, [], ◌∷◌, length, slice_get, IfSome, IfOk, Some, ◌+◌, drop};
 ghost use Rattle.std.specs.Cmp.{partial_order_from_total};
 ghost use Rattle.std.specs.Cmp.Rules.{comparing};
 ghost use Rattle.std.specs.Ordering.{as_partial_cmp};
 ghost use Rattle.std.proofs.Common.{rules};
-ghost use Rattle.bs_tree.specs.Canonical.{level_sequence, sequence_cmp};
-ghost use Rattle.bs_tree.specs.Code.{IsCode, joined, tree_of, code_of_pairs, child_codes, same_code};
+ghost use Rattle.bs_tree.specs.Canonical.{level_sequence, canonical_sequence, sequence_cmp};
+ghost use Rattle.bs_tree.specs.Code.{is_level_sequence, IsCode, joined, tree_of, code_of_pairs, child_codes, same_code};
 ghost use Rattle.bs_tree.specs.CodeEquality.{sequence_equivalence};
-ghost use Rattle.bs_tree.specs.Numbers.{density};
+ghost use Rattle.bs_tree.specs.Isomorphic.{isomorphic};
+ghost use Rattle.bs_tree.specs.Numbers.{symmetry, density, alpha};
 ghost use Rattle.bs_tree.specs.OrderLaws.{sequence_total};
+ghost use Rattle.bs_tree.specs.Pruned.{pruned};
+ghost use Rattle.bs_tree.specs.Subtrees.{first_count, tree_at};
 
-use crate::build::{child_pairs, code_of, count_at, is_level_sequence, product_of_sizes};
+use crate::build::{
+    child_pairs, code_of, count_at, first_count, is_level_sequence, kept_pairs,
+    product_of_class_sizes, product_of_sizes,
+};
 use crate::code_list::CodeList;
 use crate::pairs::Pairs;
-use crate::tree::Tree;
+use crate::tree::{Tree, factorial, labellings};
 use crate::{COLOURS, MAX_NODES};
 use std::alloc::{AllocError, Global};
 use std::cmp::Ordering;
@@ -98,10 +104,26 @@ impl Code {
         ensures { result ≡ code_of_pairs pairs.now }
     {
         if is_level_sequence(pairs) {
-            Some(code_of(pairs))
+            Some(Code::of_level_sequence(pairs))
         } else {
             None
         }
+    }
+
+    /// The code of the tree that the level sequence describes, in whatever order its children come.
+    pub fn of_level_sequence(pairs: &[(u8, u8)]) -> Code
+        requires { IsTrue (is_level_sequence pairs.now) }
+        ensures { result ≡ canonical_sequence (tree_of pairs.now) }
+    {
+        code_of(pairs)
+    }
+
+    /// The code that these pairs are already, as a caller has proved.
+    pub fn of_canonical(pairs: Pairs) -> Code
+        requires { IsCode pairs }
+        ensures { result ≡ pairs }
+    {
+        Code { pairs }
     }
 
     /// The root of this colour over the trees of these codes, which is the sequence as it stands.
@@ -135,6 +157,22 @@ impl Code {
         product_of_sizes(self.pairs())
     }
 
+    /// The symmetry of the tree: the product of the symmetries of the children and of m! for each class of m isomorphic ones.
+    pub fn symmetry(&self) -> u64
+        ensures value { result ≡ symmetry (tree_of self.now) }
+        ensures positive { 0 < result }
+    {
+        product_of_class_sizes(self.pairs())
+    }
+
+    /// The factorial of the order over the symmetry and the density: the number of monotonic labellings.
+    pub fn alpha(&self) -> u64
+        ensures value { result ≡ alpha (tree_of self.now) }
+        ensures positive { 0 < result }
+    {
+        labellings(factorial(self.order()), self.symmetry(), self.density())
+    }
+
     /// The level of a node, the nodes counted from 0 in preorder; the root's is 1.
     pub fn level(&self, node: usize) -> u8
         requires { node < length self.now }
@@ -152,6 +190,15 @@ impl Code {
         ensures small { result < COLOURS }
     {
         self.pairs()[node].1
+    }
+
+    /// Whether the colour of each node is below this number.
+    pub fn has_colours_below(&self, colours: usize) -> bool
+        ensures { IsTrue result ↔ All (λ pair. pair.1 < colours) self.now }
+    {
+        self.pairs()
+            .iter()
+            .all(|pair| usize::from(pair.1) < colours)
     }
 
     /// The number of the root's children.
@@ -173,6 +220,37 @@ impl Code {
         Code { pairs }
     }
 
+    /// The place behind the subtree of a node, the nodes counted from 0 in preorder.
+    pub fn subtree_end(&self, node: usize) -> usize
+        requires { node < length self.now }
+        ensures value { result ≡ node + first_count (drop node self.now) }
+        ensures within { result ≤ length self.now }
+        ensures later { node < result }
+    {
+        node + first_count(&self.pairs()[node..])
+    }
+
+    /// The code of the subtree of a node, the nodes counted from 0 in preorder.
+    pub fn subtree(&self, node: usize) -> Code
+        requires { node < length self.now }
+        ensures { result ≡ canonical_sequence (tree_at self.now node) }
+    {
+        code_of(&self.pairs()[node..self.subtree_end(node)])
+    }
+
+    /// The code of the subtree of a node without the nodes below it whose letter is false, and without all below these.
+    ///
+    /// Each node of the whole tree has its letter, in preorder; those outside the subtree and the one of its root are not read.
+    pub fn pruned(&self, node: usize, kept: &[bool]) -> Code
+        requires node { node < length self.now }
+        requires letters { length self.now ≤ length kept.now }
+        ensures { result ≡ canonical_sequence (pruned (tree_at self.now node) (drop (node + 1) kept.now)) }
+    {
+        let end = self.subtree_end(node);
+        let rest = kept_pairs(&self.pairs()[node..end], &kept[node..end]);
+        code_of(rest.as_slice())
+    }
+
     /// The pairs (level, colour) in preorder.
     pub fn pairs(&self) -> &[(u8, u8)]
         ensures value { result.now ≡ self.now }
@@ -189,6 +267,14 @@ impl Code {
         ensures { result ≡ sequence_cmp self.now other.now }
     {
         self.pairs().cmp(other.pairs())
+    }
+
+    /// Whether the trees are equal up to the order of the children of each node.
+    pub fn isomorphic(&self, other: &Code) -> bool
+        ensures { result ≡ isomorphic (tree_of self.now) (tree_of other.now) }
+    {
+        let (left, right) = (self.pairs(), other.pairs());
+        left.cmp(right).is_eq()
     }
 
     /// A tree with this level sequence, so with its children in decreasing order. It takes memory for the tree alone.

@@ -1,6 +1,6 @@
 //! Codes and lists of codes: what is refused, children, and each call once.
 
-use crate::{Code, CodeList, MAX_NODES, Tree, is_level_sequence};
+use crate::{Code, CodeList, MAX_NODES, Pairs, Tree, is_level_sequence};
 use std::alloc::Global;
 use std::cmp::Ordering;
 use std::test::Fail;
@@ -96,6 +96,10 @@ fn children_keep_their_colours(rt: HostRuntime) -> Result<(), Fail> {
     assert_eq!(rt; code.colour(0), 3);
     assert_eq!(rt; code.colour(3), 2);
     assert_eq!(rt; code.density(), 15);
+    assert_eq!(rt; code.symmetry(), 1);
+    assert_eq!(rt; code.alpha(), 8);
+    assert!(rt; code.has_colours_below(4));
+    assert!(rt; !code.has_colours_below(3));
     assert!(rt; code.child(0) == Code::leaf(1));
     assert!(rt; code.child(1) == code_of(rt.alloc(), "122", "021")?);
     Ok(())
@@ -111,7 +115,13 @@ fn a_tree_of_a_code_has_that_code(rt: HostRuntime) -> Result<(), Fail> {
     ] {
         let pairs = pairs_of(rt.alloc(), levels, colours)?;
         let code = code_of(rt.alloc(), levels, colours)?;
-        assert!(rt; is_level_sequence(&pairs), "{levels} {colours}");
+        if !is_level_sequence(&pairs) {
+            return Err("no level sequence")?;
+        }
+        assert!(rt;
+            Code::of_level_sequence(&pairs) == code,
+            "{levels} {colours}"
+        );
         let built = Tree::of_pairs(rt.alloc(), &pairs)?;
         let tree = code.tree(rt.alloc())?;
         assert_eq!(rt; tree.order(), levels.len());
@@ -137,4 +147,13 @@ fn a_list_of_codes(rt: HostRuntime) -> Result<(), Fail> {
     assert!(rt; codes.get(1) == code_of(rt.alloc(), "12", "00")?);
     assert!(rt; codes.get(2) == Code::leaf(0));
     Ok(())
+}
+
+#[test]
+fn a_canonical_sequence_is_a_code_as_it_stands(rt: HostRuntime) {
+    let mut pairs = Pairs::new();
+    pairs.push((1, 3));
+    let code = Code::of_canonical(pairs);
+    assert_eq!(rt; pairs.as_slice().len(), 1);
+    assert!(rt; code == Code::leaf(3));
 }

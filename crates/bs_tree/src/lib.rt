@@ -7,6 +7,7 @@ pub mod code_laws;
 mod code_list;
 #[cfg(test)]
 mod code_tests;
+mod insertion;
 pub mod laws;
 mod pairs;
 #[cfg(test)]
@@ -20,6 +21,7 @@ mod tree;
 pub use build::is_level_sequence;
 pub use code::Code;
 pub use code_list::CodeList;
+pub use pairs::Pairs;
 pub use tree::{GraftFault, GraftRefused, Tree};
 
 /// The largest number of nodes of a tree.

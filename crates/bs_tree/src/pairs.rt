@@ -3,9 +3,11 @@
 //! Contracts see a `Pairs` as the list of its pairs. No call takes memory.
 ghost use Rattle.std.specs.Prelude.{◌≡◌, ℕ, ◌+◌, ◌<◌, ◌≤◌, ◌++◌, [], ◌∷◌, length, map, All};
 ghost use Rattle.bs_tree.specs.Code.{deeper};
+ghost use Rattle.bs_tree.specs.Insertion.{from_level, inserted};
 ghost use Rattle.bs_tree.specs.Subtrees.{raised};
 
 use crate::MAX_NODES;
+use crate::insertion::insert_each;
 use std::marker::Model;
 
 /// At most MAX_NODES pairs, in place.
@@ -32,6 +34,7 @@ impl Model for Pairs {
 }
 
 impl Pairs {
+    /// The list with no pair.
     pub fn new() -> Pairs
         ensures { result ≡ [] }
     {
@@ -41,6 +44,7 @@ impl Pairs {
         }
     }
 
+    /// Puts the pair last.
     pub fn push(&mut self, pair: (u8, u8))
         requires { length self.old < MAX_NODES }
         ensures { self.new ≡ self.old ++ pair ∷ [] }
@@ -49,6 +53,7 @@ impl Pairs {
         self.len += 1;
     }
 
+    /// The pairs in order.
     pub fn as_slice(&self) -> &[(u8, u8)]
         ensures value { result.now ≡ self.now }
         ensures small { length result.now ≤ MAX_NODES }
@@ -57,7 +62,7 @@ impl Pairs {
     }
 
     /// Appends the pairs, each one level deeper.
-    pub fn push_deeper(&mut self, pairs: &[(u8, u8)])
+    pub(crate) fn push_deeper(&mut self, pairs: &[(u8, u8)])
         requires room { length self.old + length pairs.now ≤ MAX_NODES }
         requires levels { All (λ p. p.0 < 255) pairs.now }
         ensures { self.new ≡ self.old ++ deeper pairs.now }
@@ -66,8 +71,9 @@ impl Pairs {
             self.push((pair.0 + 1, pair.1));
         }
     }
+
     /// Appends the pairs, each one level higher.
-    pub fn push_raised(&mut self, pairs: &[(u8, u8)])
+    pub(crate) fn push_raised(&mut self, pairs: &[(u8, u8)])
         requires room { length self.old + length pairs.now ≤ MAX_NODES }
         requires levels { All (λ p. 0 < p.0) pairs.now }
         ensures { self.new ≡ self.old ++ raised pairs.now }
@@ -75,5 +81,23 @@ impl Pairs {
         'pairs: for pair in pairs {
             self.push((pair.0 - 1, pair.1));
         }
+    }
+
+    /// Appends the pairs, their levels counted from 1 for this root's.
+    pub(crate) fn push_from(&mut self, root: u8, pairs: &[(u8, u8)])
+        requires room { length self.old + length pairs.now ≤ MAX_NODES }
+        requires levels { All (λ p. (root ≤ p.0) × (p.0 < root + 255)) pairs.now }
+        ensures { self.new ≡ self.old ++ from_level root pairs.now }
+    {
+        'pairs: for pair in pairs {
+            self.push((pair.0 - root + 1, pair.1));
+        }
+    }
+
+    /// Puts the tree of each node behind the greater ones of those that follow it below the same parent.
+    pub(crate) fn insert_each(&mut self)
+        ensures { self.new ≡ inserted self.old }
+    {
+        insert_each(&mut self.nodes[..self.len]);
     }
 }

@@ -48,6 +48,13 @@ fn numbers_of_the_literature(rt: HostRuntime) -> Result<(), Fail> {
         assert_eq!(rt; tree.symmetry(), *symmetry, "symmetry of {levels}");
         assert_eq!(rt; tree.density(), *density, "density of {levels}");
         assert_eq!(rt; tree.alpha(), *alpha, "alpha of {levels}");
+        let code = tree.code();
+        assert_eq!(rt;
+            code.symmetry(),
+            *symmetry,
+            "symmetry of the code of {levels}"
+        );
+        assert_eq!(rt; code.alpha(), *alpha, "alpha of the code of {levels}");
     }
     Ok(())
 }

@@ -160,7 +160,8 @@ impl Tree {
 
     /// The factorial of the order over the symmetry and the density: the number of monotonic labellings.
     pub fn alpha(&self) -> u64
-        ensures { result ≡ alpha self.now }
+        ensures value { result ≡ alpha self.now }
+        ensures positive { 0 < result }
     {
         labellings(factorial(self.order()), self.symmetry(), self.density())
     }
@@ -247,7 +248,7 @@ fn scaled(product: u64, symmetry: u64, later: u64) -> u64
 }
 
 /// This factorial over the symmetry and the density.
-fn labellings(total: u64, symmetry: u64, density: u64) -> u64
+pub(crate) fn labellings(total: u64, symmetry: u64, density: u64) -> u64
     requires symmetry { 0 < symmetry }
     requires density { 0 < density }
     requires fits { symmetry * density < 2 ^ 64 }
@@ -257,7 +258,7 @@ fn labellings(total: u64, symmetry: u64, density: u64) -> u64
 }
 
 /// The factorial.
-fn factorial(n: usize) -> u64
+pub(crate) fn factorial(n: usize) -> u64
     requires { n ≤ MAX_NODES }
     ensures { result ≡ factorial n }
 {

@@ -7,7 +7,7 @@ use Rattle.bs_frac.specs.declared.coef.Coef.{Coef}
 use Rattle.bs_tree.specs.Tree.{Forest, none, grow}
 use Rattle.bs_tree.specs.Canonical.{level_sequence, level_sequence_at, canonical_of}
 use Rattle.bs_tree.specs.Code.{tree_of, IsCode}
-use Rattle.bs_tree.proofs.Joins.{tree_of-level_sequence}
+use Rattle.bs_tree.specs.SubtreeLaws.{tree_of-level_sequence}
 use Rattle.bs_tableau.specs.Table.{Table, matrix_entry, weight_entry}
 use Rattle.bs_tableau.specs.WrittenWeight.{edge_sum, edge_sums, stage_value, root_sum, written_weight}
 use Rattle.bs_tableau.specs.declared.TheConstants.{MAX_STAGES}
@@ -36,13 +36,13 @@ tail_of : (p q : ℕ × ℕ) (ps qs : List (ℕ × ℕ)) → p ∷ ps ≡ q ∷ 
 tail_of p q ps qs e = ap (λ xs. drop 1 xs) e
 
 -- ---- equal values at each stage
-edge_sum-same : (t : Table) (c d i : ℕ) (p q : ℕ → Coef) → c ≡ d → ((j : ℕ) → j < t.stages → p j ≡ q j) → edge_sum checked t c i p ≡ edge_sum checked t d i q
+pub edge_sum-same : (t : Table) (c d i : ℕ) (p q : ℕ → Coef) → c ≡ d → ((j : ℕ) → j < t.stages → p j ≡ q j) → edge_sum checked t c i p ≡ edge_sum checked t d i q
 edge_sum-same t c d i p q e h =
     ap (λ n. edge_sum checked t n i p) e
     ∙ sum_below-same (λ j. product_all checked (checked.of (matrix_entry t d i j) ∷ p j ∷ [])) (λ j. product_all checked (checked.of (matrix_entry t d i j) ∷ q j ∷ [])) t.stages
     (λ j lt. ap (λ x. product_all checked (checked.of (matrix_entry t d i j) ∷ x ∷ [])) (h j lt))
 
-root_sum-same : (t : Table) (c d : ℕ) (p q : ℕ → Coef) → c ≡ d → ((j : ℕ) → j < t.stages → p j ≡ q j) → root_sum checked t c p ≡ root_sum checked t d q
+pub root_sum-same : (t : Table) (c d : ℕ) (p q : ℕ → Coef) → c ≡ d → ((j : ℕ) → j < t.stages → p j ≡ q j) → root_sum checked t c p ≡ root_sum checked t d q
 root_sum-same t c d p q e h =
     ap (λ n. root_sum checked t n p) e
     ∙ sum_below-same (λ j. product_all checked (checked.of (weight_entry t d j) ∷ p j ∷ [])) (λ j. product_all checked (checked.of (weight_entry t d j) ∷ q j ∷ [])) t.stages
@@ -61,10 +61,11 @@ stops-below t level (p ∷ ps) values h l (grow c kids rest) later low e =
     absurd (let n : p.0 ≡ level = ap (λ (q : ℕ × ℕ). q.0) (head_of p (level, c) ps _ e) in omega arith)
 
 -- ---- one tree, and the trees behind it
-module _ (t : Table) (level top colour : ℕ) (pairs : List (ℕ × ℕ)) (old ones child between new : List Coef) (behind rest : List (ℕ × ℕ))
+module _ (t : Table) (level top colour : ℕ) (pairs : List (ℕ × ℕ)) (old ones child sums between new : List Coef) (behind rest : List (ℕ × ℕ))
     (is_one : (i : ℕ) → i < MAX_STAGES → stage_in ones i ≡ checked.of (whole 1)) (few : t.stages ≤ MAX_STAGES)
     (below : MultipliesTrees t (suc top) (behind_first pairs) ones child behind)
-    (edge : MultipliesBy t.stages old between (λ i. edge_sum checked t colour i (stage_in child)))
+    (summed : (i : ℕ) → i < t.stages → stage_in sums i ≡ edge_sum checked t colour i (stage_in child))
+    (edge : MultipliesBy t.stages old between (stage_in sums))
     (after : MultipliesTrees t level behind between new rest) where
   pub goes_on : 1 ≤ length pairs → level ≤ (get_or pairs 0 (0, 0)).0 → top ≡ (get_or pairs 0 (0, 0)).0 → colour ≡ (get_or pairs 0 (0, 0)).1 → MultipliesTrees t level pairs old new rest
   goes_on h l n k f later low e = go pairs f h l n k e refl
@@ -90,7 +91,7 @@ module _ (t : Table) (level top colour : ℕ) (pairs : List (ℕ × ℕ)) (old o
             values = λ i lt.
                 second.values i lt
                 ∙ ap (λ z. fold checked.product z (edge_sums checked t more i))
-                (edge i lt ∙ ap (checked.product (stage_in old i)) (edge_sum-same t colour c i (stage_in child) (stage_value checked t kids) same_colour kid));
+                (edge i lt ∙ ap (checked.product (stage_in old i)) (summed i lt ∙ edge_sum-same t colour c i (stage_in child) (stage_value checked t kids) same_colour kid));
           }
 
 -- ---- the whole tree

@@ -29,7 +29,7 @@ pub fn weight(table: &Tableau, code: &Code) -> Coef
 }
 
 /// The sum over the stages of the root.
-fn root_sum(table: &Tableau, colour: usize, values: &Stages) -> Coef
+pub(crate) fn root_sum(table: &Tableau, colour: usize, values: &Stages) -> Coef
     requires { colour < table.now.colours }
     ensures value { result ≡ root_sum checked table.now colour (stage_in values.now) }
     ensures begun { IsBegun table.now }

@@ -1,6 +1,6 @@
 //! Weights from the literature, at the edge of what a fraction holds, and of the largest trees.
 
-use crate::weight;
+use crate::{Weights, weight};
 use bs_frac::{Coef, Frac};
 use bs_tableau::methods::{
     Block, DORMAND_PRINCE, EULER, HALF_AND_THIRD, IMEX, IMPLICIT_EULER, LARGEST_TWICE,
@@ -46,14 +46,18 @@ fn code_of(alloc: Global, levels: &str, colours: &str) -> Result<Code, Fail> {
 
 /// The weight of a tree whose colours the tableau has.
 fn weight_of(table: &Tableau, code: &Code) -> Result<Coef, Fail> {
-    if !code
-        .pairs()
-        .iter()
-        .all(|pair| usize::from(pair.1) < table.colours())
-    {
+    if !code.has_colours_below(table.colours()) {
         return Err("a colour is too large")?;
     }
     Ok(weight(table, code))
+}
+
+/// The same by what is remembered.
+fn remembered(weights: &mut Weights, table: &Tableau, code: &Code) -> Result<Coef, Fail> {
+    if !code.has_colours_below(table.colours()) {
+        return Err("a colour is too large")?;
+    }
+    Ok(weights.weight(table, code))
 }
 
 fn value(text: &str) -> Result<Coef, Fail> {
@@ -189,6 +193,71 @@ fn overflow_comes_in_the_written_order(rt: HostRuntime) -> Result<(), Fail> {
     assert!(rt; weight_of(&twice, &leaf)? == Coef::Overflow);
     let half = built(rt.alloc(), HALF_AND_THIRD)?;
     assert!(rt; weight_of(&half, &leaf)? == Coef::Overflow);
+    Ok(())
+}
+
+/// Each tree behind its smaller ones, whose edge sums are remembered.
+#[test]
+fn remembered_sums_give_the_same(rt: HostRuntime) -> Result<(), Fail> {
+    let table = built(rt.alloc(), DORMAND_PRINCE)?;
+    let mut weights = Weights::new(rt.alloc());
+    for (levels, density) in TREES {
+        let expected = format!(in rt.alloc(); "1/{density}")?;
+        let code = code_of(rt.alloc(), levels, "00000")?;
+        assert!(rt;
+            remembered(&mut weights, &table, &code)? == value(&expected)?,
+            "at {levels}"
+        );
+    }
+    Ok(())
+}
+
+/// Two tableaux in turn.
+#[test]
+fn each_tableau_has_its_own_sums(rt: HostRuntime) -> Result<(), Fail> {
+    let rk4 = built(rt.alloc(), RK4)?;
+    let imex = built(rt.alloc(), IMEX)?;
+    let tall = code_of(rt.alloc(), "123", "000")?;
+    let mut weights = Weights::new(rt.alloc());
+    for _ in 0..2 {
+        assert!(rt; remembered(&mut weights, &rk4, &tall)? == value("1/6")?);
+        assert!(rt; remembered(&mut weights, &imex, &tall)? == value("1")?);
+    }
+    Ok(())
+}
+
+#[test]
+fn remembered_sums_differ_by_colour(rt: HostRuntime) -> Result<(), Fail> {
+    let mixed = built(rt.alloc(), MIXED)?;
+    let mut weights = Weights::new(rt.alloc());
+    for (colours, expected) in [
+        ("010", "1957/6006"),
+        ("001", "881/4290"),
+        ("110", "1961/840"),
+        ("010", "1957/6006"),
+    ] {
+        let code = code_of(rt.alloc(), "123", colours)?;
+        assert!(rt;
+            remembered(&mut weights, &mixed, &code)? == value(expected)?,
+            "at {colours}"
+        );
+    }
+    Ok(())
+}
+
+#[test]
+fn remembered_overflow_is_an_overflow(rt: HostRuntime) -> Result<(), Fail> {
+    let largest = built(rt.alloc(), LARGEST_WEIGHT)?;
+    let mut weights = Weights::new(rt.alloc());
+    let cherry = code_of(rt.alloc(), "12", "00")?;
+    let leaf = code_of(rt.alloc(), "1", "0")?;
+    for _ in 0..2 {
+        assert!(rt; remembered(&mut weights, &largest, &cherry)? == Coef::Overflow);
+        assert!(rt;
+            remembered(&mut weights, &largest, &leaf)?
+                == value("170141183460469231731687303715884105727")?
+        );
+    }
     Ok(())
 }
 

@@ -40,14 +40,26 @@ fn edge_sum(table: &Tableau, colour: usize, row: usize, child: &Stages) -> Coef
     sum.finish()
 }
 
-/// Multiplies the edge sums of a child of this colour into its parent's values.
-fn multiply_edge(table: &Tableau, colour: usize, values: &mut Stages, child: &Stages)
+/// The sums over the stages of a child of this colour, for each stage of its parent.
+pub fn edge_sums(table: &Tableau, colour: usize, child: &Stages) -> Stages
     requires { colour < table.now.colours }
-    ensures values { MultipliesBy table.now.stages values.old values.new (λ i. edge_sum checked table.now colour i (stage_in child.now)) }
+    ensures sums { (i : ℕ) → i < table.now.stages → stage_in result i ≡ edge_sum checked table.now colour i (stage_in child.now) }
     ensures few_stages { table.now.stages ≤ MAX_STAGES }
 {
+    let mut sums = ones();
     'rows: for row in 0..table.stages() {
-        values[row] = values[row].times(&edge_sum(table, colour, row, child));
+        sums[row] = edge_sum(table, colour, row, child);
+    }
+    sums
+}
+
+/// Multiplies the factors into the values, stage by stage.
+pub fn multiply(stages: usize, values: &mut Stages, factors: &Stages)
+    requires { stages ≤ MAX_STAGES }
+    ensures { MultipliesBy stages values.old values.new (stage_in factors.now) }
+{
+    'stages: for stage in 0..stages {
+        values[stage] = values[stage].times(&factors[stage]);
     }
 }
 
@@ -69,7 +81,8 @@ pub fn multiply_children<'a>(
         [node, below @ ..] if node.0 > parent.0 => {
             let mut child = ones();
             let behind = multiply_children(table, *node, below, &mut child);
-            multiply_edge(table, usize::from(node.1), values, &child);
+            let sums = edge_sums(table, usize::from(node.1), &child);
+            multiply(table.stages(), values, &sums);
             multiply_children(table, parent, behind, values)
         }
         _ => pairs,

@@ -1,7 +1,7 @@
 use Rattle.std.proofs.Common.{◌≡◌, ◌++◌, length}
 use Rattle.bs_tree.specs.Tree.{trees}
 use Rattle.bs_tree.specs.Subtrees.{subtree_of, forest_at, level_below}
-use Rattle.bs_tree.proofs.Splits.{IsRest}
+use Rattle.bs_tree.specs.SubtreeLaws.{IsRest}
 use Rattle.bs_tree.proofs.build.+tree_under.Given as goal
 
 abbrev pub decreases-tree_under : goal.decreases-tree_under

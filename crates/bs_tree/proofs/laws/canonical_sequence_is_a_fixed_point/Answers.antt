@@ -1,4 +1,5 @@
-use Rattle.bs_tree.proofs.Joins.{tree_of-level_sequence, canonical_sequence-tree_of, isomorphic-tree_of}
+use Rattle.bs_tree.proofs.Joins.{canonical_sequence-tree_of, isomorphic-tree_of}
+use Rattle.bs_tree.specs.SubtreeLaws.{tree_of-level_sequence}
 use Rattle.bs_tree.proofs.laws.canonical_sequence_is_a_fixed_point.Goals as goal
 
 pub returns-clause-read : goal.returns-clause-read

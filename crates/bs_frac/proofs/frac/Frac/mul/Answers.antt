@@ -1,8 +1,8 @@
-use Rattle.std.proofs.Common.{◌≡◌, ℕ, ◌*◌, ◌/◌, ◌<◌, ◌≤◌, Some, not, arith, ◌∙◌, ap₂, mul-pos}
+use Rattle.std.proofs.Common.{◌≡◌, ℕ, ◌*◌, ◌/◌, ◌<◌, ◌≤◌, Some, not, arith, sym, ◌∙◌, ap₂, mul-pos}
 use mathlib.Core.Bool.{beq}
 use Rattle.bs_frac.specs.Checked.{largest}
 use Rattle.bs_frac.specs.Gcd.{gcd}
-use Rattle.bs_frac.proofs.Sums.{no_product, no_product_bottom, product_found, product_zero_left, product_zero_right, zero_over_one, side, reduced_side}
+use Rattle.bs_frac.proofs.Sums.{no_product, no_product_bottom, product_found, product_zero_left, product_zero_right, product_one_left, zero_over_one, side, reduced_side}
 use Rattle.bs_frac.proofs.Reduced.{product_coprime, quotient_pos}
 use Rattle.bs_frac.proofs.GcdLaws.{gcd-left, gcd-right}
 use Rattle.bs_frac.proofs.frac.Frac.mul.Goals as goal
@@ -22,6 +22,12 @@ returns-then-self-eq0-clause-value c =
           rw (e, zero_over_one o.num o.den e c.other.invariant.3) (product_zero_right s.negative o.negative s.num s.den c.self.invariant.2)
     ])
 
+pub returns-then-is_one-clause-value : goal.returns-then-is_one-clause-value
+unfolding side
+returns-then-is_one-clause-value c =
+    let o = c.other.inside in
+    rw (c.is_one.ensures c.if-is_one.true, ← c.other.view_is) (sym (product_one_left o.negative o.num o.den c.other.invariant.0 c.other.invariant.1))
+
 pub returns-in_default-clause-value : goal.returns-in_default-clause-value
 returns-in_default-clause-value c =
     let s = c.self.inside in let o = c.other.inside in
@@ -36,8 +42,8 @@ returns-in_default-quotients_within-clause-value c =
     rw (← c.self.view_is, ← c.other.view_is)
     (no_product_bottom s.negative s.num s.den o.negative o.num o.den c.gcd_of-left.result c.gcd_of-right.result c.gcd_of-left.ensures.value c.gcd_of-right.ensures.value h)
 
-pub invariant_of-result : goal.invariant_of-result
-invariant_of-result c =
+pub invariant_of-result-2 : goal.invariant_of-result-2
+invariant_of-result-2 c =
     let s = c.self.inside in let o = c.other.inside in
     let g = c.gcd_of-left.result in let h = c.gcd_of-right.result in
     let en : c.in-Some.num ≡ s.num / g * (o.num / h) = c.in-Some.ensures.1 in
@@ -66,5 +72,5 @@ returns-clause-value c =
 
 pub returns-clause-reduced : goal.returns-clause-reduced
 returns-clause-reduced c =
-    let i = invariant_of-result c in
+    let i = invariant_of-result-2 c in
     reduced_side (not (beq c.self.inside.negative c.other.inside.negative)) c.in-Some.num c.in-Some-quotients_within.den i.2 i.3
