@@ -1,0 +1,11 @@
+pub mod Lists
+pub mod Orders
+pub mod Siblings
+pub mod Steps
+pub mod Copies
+pub mod Forests
+pub mod Listed
+pub mod Left
+pub mod Facts
+pub mod Places
+pub mod Loops

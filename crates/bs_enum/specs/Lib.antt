@@ -1,0 +1,4 @@
+pub mod AllTrees
+pub mod Walk
+pub mod Successor
+pub mod Laws

@@ -1,0 +1,9 @@
+pub mod Splitting
+pub mod Words
+pub mod SplittingLaws
+pub mod Walk
+pub mod Laws
+pub use Rattle.bs_tree.specs.Tree
+pub use Rattle.bs_tree.specs.Canonical
+pub use Rattle.bs_tree.specs.Code
+pub use Rattle.bs_tree.specs.SortingLaws
