@@ -9,17 +9,33 @@
 --   same_line answer              == `same yes` or `same no`
 --   info_line code sym den alpha  == `info TREE order N symmetry N density N alpha N`, where the order is the code's length
 --   weight_line c                 == `weight COEF`
+--   word_text w                   == the first word of a reply that is a list
+--   count_line w n                == `WORD N`, the first line of a list
+--   listed_line code              == `TREE`
+--   trees_text codes              == ` TREE` for each tree of a list
+--   kept_text kept                == `TREE`, or `empty` where nothing is kept
+--   split_line kept forest        == `TREE | TREE ..`, or `empty | TREE ..`: what is kept of a tree, and the trees that are cut off
+--   part_line skeleton parts      == `TREE | TREE ..`: a skeleton, and the parts that hang on it
+--   verdict_text v                == `yes`, `no`, or `unknown`
+--   condition_line code c target  == `TREE COEF FRACTION yes`, or `no`, or `unknown`: an order condition and whether it holds
+--   order_line n overflow         == `order N`, or `order N overflow`
 --   line_text line                == the text of any line
 --
 -- Source: this project's format of replies.
 -- The code appends piece by piece, and takes back what it appended where memory runs out.
-use Rattle.std.specs.Prelude.{ℕ, Bool, true, false, List, ◌++◌, length, decimal, codes}
+use Rattle.std.specs.Prelude.{ℕ, Bool, true, false, List, ◌++◌, length, flat_map, Option, Some, None, decimal, codes}
+use Rattle.bs_frac.specs.Fraction.{Fraction}
 use Rattle.bs_frac.specs.Text.{fraction_text}
 use Rattle.bs_frac.specs.declared.coef.Coef.{Coef}
 use Rattle.bs_frac.specs.declared.coef.Coef.TheVariants.{Value, Overflow}
 use Rattle.bs_levels.specs.TreeText.{tree_text}
+use Rattle.bs_reply.specs.Verdicts.{verdict}
+use Rattle.bs_reply.specs.declared.verdict.Verdict.{Verdict}
+use Rattle.bs_reply.specs.declared.verdict.Verdict.TheVariants.{Holds, Fails, Unknown}
+use Rattle.bs_reply.specs.declared.line.Word.{Word}
+use Rattle.bs_reply.specs.declared.line.Word.TheVariants.{Trees, Split, Partition, Conditions}
 use Rattle.bs_reply.specs.declared.line.Line.{Line}
-use Rattle.bs_reply.specs.declared.line.Line.TheVariants.{Head, Error, Tree, Drop, Same, Info, Weight}
+use Rattle.bs_reply.specs.declared.line.Line.TheVariants.{Head, Error, Tree, Drop, Same, Info, Weight, Count, Listed, Split as Splitting, Part, Condition, Order}
 
 abbrev pub coef_text : Coef → List ℕ
 coef_text (Value x) = fraction_text x
@@ -49,6 +65,45 @@ info_line code symmetry density alpha =
 abbrev pub weight_line : Coef → List ℕ
 weight_line coef = codes "weight " ++ coef_text coef ++ codes "\n"
 
+abbrev pub word_text : Word → List ℕ
+word_text Trees = codes "trees"
+word_text Split = codes "split"
+word_text Partition = codes "partition"
+word_text Conditions = codes "conditions"
+
+abbrev pub count_line : Word → ℕ → List ℕ
+count_line word number = word_text word ++ codes " " ++ decimal number ++ codes "\n"
+
+abbrev pub listed_line : List (ℕ × ℕ) → List ℕ
+listed_line code = tree_text code ++ codes "\n"
+
+abbrev pub trees_text : List (List (ℕ × ℕ)) → List ℕ
+trees_text trees = flat_map (λ code. codes " " ++ tree_text code) trees
+
+abbrev pub kept_text : Option (List (ℕ × ℕ)) → List ℕ
+kept_text None = codes "empty"
+kept_text (Some code) = tree_text code
+
+abbrev pub split_line : Option (List (ℕ × ℕ)) → List (List (ℕ × ℕ)) → List ℕ
+split_line kept forest = kept_text kept ++ codes " |" ++ trees_text forest ++ codes "\n"
+
+abbrev pub part_line : List (ℕ × ℕ) → List (List (ℕ × ℕ)) → List ℕ
+part_line skeleton parts = tree_text skeleton ++ codes " |" ++ trees_text parts ++ codes "\n"
+
+abbrev pub verdict_text : Verdict → List ℕ
+verdict_text Holds = codes "yes"
+verdict_text Fails = codes "no"
+verdict_text Unknown = codes "unknown"
+
+abbrev pub condition_line : List (ℕ × ℕ) → Coef → Fraction → List ℕ
+condition_line code coef target =
+    tree_text code ++ codes " " ++ coef_text coef ++ codes " " ++ fraction_text target ++ codes " " ++ verdict_text (verdict coef target)
+    ++ codes "\n"
+
+abbrev pub order_line : ℕ → Bool → List ℕ
+order_line number true = codes "order " ++ decimal number ++ codes " overflow\n"
+order_line number false = codes "order " ++ decimal number ++ codes "\n"
+
 abbrev pub line_text : Line → List ℕ
 line_text (Head number) = head_line number
 line_text (Error number) = error_line number
@@ -57,3 +112,9 @@ line_text (Drop name) = drop_line name.now
 line_text (Same answer) = same_line answer
 line_text (Info code symmetry density alpha) = info_line code symmetry density alpha
 line_text (Weight coef) = weight_line coef
+line_text (Count word number) = count_line word number
+line_text (Listed code) = listed_line code
+line_text (Splitting kept forest) = split_line kept forest
+line_text (Part skeleton parts) = part_line skeleton parts
+line_text (Condition code coef target) = condition_line code coef target
+line_text (Order number overflow) = order_line number overflow

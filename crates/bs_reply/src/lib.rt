@@ -5,8 +5,10 @@ mod laws;
 mod line;
 #[cfg(test)]
 mod tests;
+mod verdict;
 mod write;
 
 pub use laws::order_said_is_the_trees;
-pub use line::Line;
+pub use line::{Line, Word};
+pub use verdict::Verdict;
 pub use write::write_line;

@@ -1,7 +1,16 @@
 //! What a reply line says.
 
-use bs_frac::Coef;
-use bs_tree::Code;
+use bs_frac::{Coef, Frac};
+use bs_tree::{Code, CodeList};
+
+/// What a list is of.
+#[derive(Clone, Copy, Debug, PartialEq, Eq)]
+pub enum Word {
+    Trees,
+    Split,
+    Partition,
+    Conditions,
+}
 
 /// One reply line. A name is written as it is.
 #[derive(Clone, Copy)]
@@ -37,5 +46,35 @@ pub enum Line<'a> {
     /// The elementary weight of a method at a tree.
     Weight {
         coef: Coef,
+    },
+    /// A list begins. It has so many lines more.
+    Count {
+        word: Word,
+        number: u64,
+    },
+    /// A tree of a list.
+    Listed {
+        code: Code,
+    },
+    /// A splitting of a tree: what is kept, or nothing, and the trees that are cut off.
+    Split {
+        kept: Option<Code>,
+        forest: CodeList,
+    },
+    /// A partition of a tree: its skeleton, and the parts.
+    Part {
+        skeleton: Code,
+        parts: CodeList,
+    },
+    /// An order condition: the elementary weight of a method at a tree, and the weight that it has to have.
+    Condition {
+        code: Code,
+        coef: Coef,
+        target: Frac,
+    },
+    /// The order of a method, as far as it was asked for; with `overflow` where no more is known.
+    Order {
+        number: u64,
+        overflow: bool,
     },
 }

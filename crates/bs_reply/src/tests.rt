@@ -1,9 +1,9 @@
 //! The bytes of each line. The expected bytes are those of the format of replies and of its worked sessions.
 
-use crate::{Line, write_line};
+use crate::{Line, Verdict, Word, write_line};
 use bs_frac::{Coef, Frac};
 use bs_levels::read_tree;
-use bs_tree::Code;
+use bs_tree::{Code, CodeList, MAX_NODES};
 use std::alloc::Global;
 use std::test::Fail;
 
@@ -95,6 +95,155 @@ fn weights(rt: HostRuntime) -> Result<(), Fail> {
     let text =
         b"weight 5/24\nweight 0\nweight -1/2\nweight 170141183460469231731687303715884105727\nweight overflow\n";
     assert_eq!(rt; text_of(alloc, &lines)?.as_slice(), text.as_slice());
+    Ok(())
+}
+
+#[test]
+fn lists(rt: HostRuntime) -> Result<(), Fail> {
+    let alloc = rt.alloc();
+    let coloured = read_tree(alloc, b"1,2", Some(b"1,0".as_slice()))?.code();
+    let lines = [
+        Line::Count {
+            word: Word::Trees,
+            number: 4,
+        },
+        Line::Listed { code: coloured },
+        Line::Listed {
+            code: code_of(alloc, "1,2,2")?,
+        },
+        Line::Count {
+            word: Word::Split,
+            number: 7,
+        },
+        Line::Count {
+            word: Word::Partition,
+            number: 32_768,
+        },
+        Line::Count {
+            word: Word::Conditions,
+            number: 0,
+        },
+    ];
+    let text = b"trees 4\n1,2:1,0\n1,2,2\nsplit 7\npartition 32768\nconditions 0\n";
+    assert_eq!(rt; text_of(alloc, &lines)?.as_slice(), text.as_slice());
+    Ok(())
+}
+
+/// A list of codes, from a line of levels for each.
+fn codes_of(alloc: Global, lines: &[&str]) -> Result<CodeList, Fail> {
+    let mut codes = CodeList::new();
+    for levels in lines {
+        if codes.len() < MAX_NODES {
+            codes.push(code_of(alloc, levels)?);
+        }
+    }
+    Ok(codes)
+}
+
+#[test]
+fn splittings(rt: HostRuntime) -> Result<(), Fail> {
+    let alloc = rt.alloc();
+    let coloured = read_tree(alloc, b"1,2", Some(b"0,3".as_slice()))?.code();
+    let lines = [
+        Line::Split {
+            kept: None,
+            forest: codes_of(alloc, &["1,2,2"])?,
+        },
+        Line::Split {
+            kept: Some(code_of(alloc, "1")?),
+            forest: codes_of(alloc, &["1", "1"])?,
+        },
+        Line::Split {
+            kept: Some(code_of(alloc, "1,2")?),
+            forest: codes_of(alloc, &["1,2,3", "1"])?,
+        },
+        Line::Split {
+            kept: Some(code_of(alloc, "1,2,2")?),
+            forest: CodeList::new(),
+        },
+        Line::Split {
+            kept: Some(coloured),
+            forest: CodeList::new(),
+        },
+    ];
+    let text = b"empty | 1,2,2\n1 | 1 1\n1,2 | 1,2,3 1\n1,2,2 |\n1,2:0,3 |\n";
+    assert_eq!(rt; text_of(alloc, &lines)?.as_slice(), text.as_slice());
+    Ok(())
+}
+
+#[test]
+fn partitions(rt: HostRuntime) -> Result<(), Fail> {
+    let alloc = rt.alloc();
+    let lines = [
+        Line::Part {
+            skeleton: code_of(alloc, "1")?,
+            parts: codes_of(alloc, &["1,2,3"])?,
+        },
+        Line::Part {
+            skeleton: code_of(alloc, "1,2")?,
+            parts: codes_of(alloc, &["1,2", "1"])?,
+        },
+        Line::Part {
+            skeleton: code_of(alloc, "1,2")?,
+            parts: codes_of(alloc, &["1", "1,2"])?,
+        },
+        Line::Part {
+            skeleton: code_of(alloc, "1,2,3")?,
+            parts: codes_of(alloc, &["1", "1", "1"])?,
+        },
+    ];
+    let text = b"1 | 1,2,3\n1,2 | 1,2 1\n1,2 | 1 1,2\n1,2,3 | 1 1 1\n";
+    assert_eq!(rt; text_of(alloc, &lines)?.as_slice(), text.as_slice());
+    Ok(())
+}
+
+#[test]
+fn conditions_and_orders(rt: HostRuntime) -> Result<(), Fail> {
+    let alloc = rt.alloc();
+    let code = code_of(alloc, "1,2")?;
+    let target = Frac::read(b"1/2")?;
+    let lines = [
+        Line::Condition {
+            code,
+            coef: value("1/2")?,
+            target,
+        },
+        Line::Condition {
+            code,
+            coef: value("-1/2")?,
+            target,
+        },
+        Line::Condition {
+            code,
+            coef: value("0")?,
+            target,
+        },
+        Line::Condition {
+            code,
+            coef: Coef::Overflow,
+            target,
+        },
+        Line::Order {
+            number: 4,
+            overflow: false,
+        },
+        Line::Order {
+            number: 0,
+            overflow: true,
+        },
+    ];
+    let text =
+        b"1,2 1/2 1/2 yes\n1,2 -1/2 1/2 no\n1,2 0 1/2 no\n1,2 overflow 1/2 unknown\norder 4\norder 0 overflow\n";
+    assert_eq!(rt; text_of(alloc, &lines)?.as_slice(), text.as_slice());
+    Ok(())
+}
+
+#[test]
+fn verdicts(rt: HostRuntime) -> Result<(), Fail> {
+    let target = Frac::read(b"1/24")?;
+    assert_eq!(rt; Verdict::of(&value("2/48")?, &target), Verdict::Holds);
+    assert_eq!(rt; Verdict::of(&value("1/23")?, &target), Verdict::Fails);
+    assert_eq!(rt; Verdict::of(&Coef::Overflow, &target), Verdict::Unknown);
     Ok(())
 }
 

@@ -4,12 +4,13 @@
 //! front back.
 
 ghost use Rattle.std.specs.Prelude.{◌≡◌, ◌++◌, take, codes, decimal, vec_len, OnOk, OnErr};
-ghost use Rattle.bs_reply.specs.Lines.{line_text, coef_text, head_line, error_line, tree_line, drop_line, same_line, info_line, weight_line};
+ghost use Rattle.bs_reply.specs.Lines.{line_text, coef_text, head_line, error_line, tree_line, drop_line, same_line, info_line, weight_line, word_text, count_line, listed_line, trees_text, kept_text, split_line, part_line, verdict_text, condition_line, order_line};
 
-use crate::line::Line;
-use bs_frac::Coef;
+use crate::line::{Line, Word};
+use crate::verdict::Verdict;
+use bs_frac::{Coef, Frac};
 use bs_levels::write_tree;
-use bs_tree::Code;
+use bs_tree::{Code, CodeList};
 use itoa::Buffer;
 use std::alloc::AllocError;
 
@@ -26,24 +27,30 @@ pub fn write_line(out: &mut Vec<u8>, line: &Line<'_>) -> Result<(), AllocError>
     outcome
 }
 
-/// Appends the line, or some front of it.
+/// Appends the line, or some front of it. What a line holds is large, and is read where it lies.
 fn write_front(out: &mut Vec<u8>, line: &Line<'_>) -> Result<(), AllocError>
     ensures written { OnOk result (out.new.items ≡ out.old.items ++ line_text line.now) }
     ensures behind { OnErr result (take (vec_len out.old) out.new.items ≡ out.old.items) }
 {
-    match *line {
-        Line::Head { number } => write_head(out, number),
-        Line::Error { number } => write_error(out, number),
-        Line::Tree { name, code } => write_named_tree(out, name, &code),
+    match line {
+        Line::Head { number } => write_head(out, *number),
+        Line::Error { number } => write_error(out, *number),
+        Line::Tree { name, code } => write_named_tree(out, name, code),
         Line::Drop { name } => write_drop(out, name),
-        Line::Same { yes } => write_same(out, yes),
+        Line::Same { yes } => write_same(out, *yes),
         Line::Info {
             code,
             symmetry,
             density,
             alpha,
-        } => write_info(out, &code, symmetry, density, alpha),
-        Line::Weight { coef } => write_weight(out, &coef),
+        } => write_info(out, code, *symmetry, *density, *alpha),
+        Line::Weight { coef } => write_weight(out, coef),
+        Line::Count { word, number } => write_count(out, *word, *number),
+        Line::Listed { code } => write_listed(out, code),
+        Line::Split { kept, forest } => write_split(out, kept, forest),
+        Line::Part { skeleton, parts } => write_part(out, skeleton, parts),
+        Line::Condition { code, coef, target } => write_condition(out, code, coef, target),
+        Line::Order { number, overflow } => write_order(out, *number, *overflow),
     }
 }
 
@@ -142,4 +149,117 @@ fn write_weight(out: &mut Vec<u8>, coef: &Coef) -> Result<(), AllocError>
     out.extend_from_slice(b"weight ")?;
     write_coef(out, coef)?;
     out.extend_from_slice(b"\n")
+}
+
+fn write_word(out: &mut Vec<u8>, word: Word) -> Result<(), AllocError>
+    ensures written { OnOk result (out.new.items ≡ out.old.items ++ word_text word) }
+    ensures unchanged { OnErr result (out.new.items ≡ out.old.items) }
+{
+    match word {
+        Word::Trees => out.extend_from_slice(b"trees"),
+        Word::Split => out.extend_from_slice(b"split"),
+        Word::Partition => out.extend_from_slice(b"partition"),
+        Word::Conditions => out.extend_from_slice(b"conditions"),
+    }
+}
+
+fn write_count(out: &mut Vec<u8>, word: Word, number: u64) -> Result<(), AllocError>
+    ensures written { OnOk result (out.new.items ≡ out.old.items ++ count_line word number) }
+    ensures behind { OnErr result (take (vec_len out.old) out.new.items ≡ out.old.items) }
+{
+    write_word(out, word)?;
+    write_number(out, b" ", number)?;
+    out.extend_from_slice(b"\n")
+}
+
+fn write_listed(out: &mut Vec<u8>, code: &Code) -> Result<(), AllocError>
+    ensures written { OnOk result (out.new.items ≡ out.old.items ++ listed_line code.now) }
+    ensures behind { OnErr result (take (vec_len out.old) out.new.items ≡ out.old.items) }
+{
+    write_tree(code, out)?;
+    out.extend_from_slice(b"\n")
+}
+
+/// Appends a space and a tree for each tree of a list.
+fn write_trees(out: &mut Vec<u8>, trees: &CodeList) -> Result<(), AllocError>
+    ensures written { OnOk result (out.new.items ≡ out.old.items ++ trees_text trees.now) }
+    ensures behind { OnErr result (take (vec_len out.old) out.new.items ≡ out.old.items) }
+{
+    'trees: for place in 0..trees.len() {
+        out.push(b' ')?;
+        write_tree(&trees.get(place), out)?;
+    }
+    Ok(())
+}
+
+fn write_kept(out: &mut Vec<u8>, kept: &Option<Code>) -> Result<(), AllocError>
+    ensures written { OnOk result (out.new.items ≡ out.old.items ++ kept_text kept.now) }
+    ensures unchanged { OnErr result (out.new.items ≡ out.old.items) }
+{
+    match kept {
+        Some(code) => write_tree(code, out),
+        None => out.extend_from_slice(b"empty"),
+    }
+}
+
+fn write_split(out: &mut Vec<u8>, kept: &Option<Code>, forest: &CodeList) -> Result<(), AllocError>
+    ensures written { OnOk result (out.new.items ≡ out.old.items ++ split_line kept.now forest.now) }
+    ensures behind { OnErr result (take (vec_len out.old) out.new.items ≡ out.old.items) }
+{
+    write_kept(out, kept)?;
+    out.extend_from_slice(b" |")?;
+    write_trees(out, forest)?;
+    out.extend_from_slice(b"\n")
+}
+
+fn write_part(out: &mut Vec<u8>, skeleton: &Code, parts: &CodeList) -> Result<(), AllocError>
+    ensures written { OnOk result (out.new.items ≡ out.old.items ++ part_line skeleton.now parts.now) }
+    ensures behind { OnErr result (take (vec_len out.old) out.new.items ≡ out.old.items) }
+{
+    write_tree(skeleton, out)?;
+    out.extend_from_slice(b" |")?;
+    write_trees(out, parts)?;
+    out.extend_from_slice(b"\n")
+}
+
+fn write_verdict(out: &mut Vec<u8>, verdict: Verdict) -> Result<(), AllocError>
+    ensures written { OnOk result (out.new.items ≡ out.old.items ++ verdict_text verdict) }
+    ensures unchanged { OnErr result (out.new.items ≡ out.old.items) }
+{
+    match verdict {
+        Verdict::Holds => out.extend_from_slice(b"yes"),
+        Verdict::Fails => out.extend_from_slice(b"no"),
+        Verdict::Unknown => out.extend_from_slice(b"unknown"),
+    }
+}
+
+fn write_condition(
+    out: &mut Vec<u8>,
+    code: &Code,
+    coef: &Coef,
+    target: &Frac,
+) -> Result<(), AllocError>
+    ensures written { OnOk result (out.new.items ≡ out.old.items ++ condition_line code.now coef.now target.now) }
+    ensures behind { OnErr result (take (vec_len out.old) out.new.items ≡ out.old.items) }
+{
+    write_tree(code, out)?;
+    out.extend_from_slice(b" ")?;
+    write_coef(out, coef)?;
+    out.extend_from_slice(b" ")?;
+    target.write(out)?;
+    out.extend_from_slice(b" ")?;
+    write_verdict(out, Verdict::of(coef, target))?;
+    out.extend_from_slice(b"\n")
+}
+
+fn write_order(out: &mut Vec<u8>, number: u64, overflow: bool) -> Result<(), AllocError>
+    ensures written { OnOk result (out.new.items ≡ out.old.items ++ order_line number overflow) }
+    ensures behind { OnErr result (take (vec_len out.old) out.new.items ≡ out.old.items) }
+{
+    write_number(out, b"order ", number)?;
+    if overflow {
+        out.extend_from_slice(b" overflow\n")
+    } else {
+        out.extend_from_slice(b"\n")
+    }
 }

@@ -1,7 +1,7 @@
 -- Texts that are kept one after another.
-use Rattle.std.proofs.Common.{◌≡◌, ◌≢◌, ℕ, zero, suc, ◌+◌, ◌-◌, ◌<◌, ◌≤◌, Bool, true, false, List, [], ◌∷◌, ◌++◌, length, take, get_or, add-one, Some, refl, ap, ◌∙◌, arith, rules}
+use Rattle.std.proofs.Common.{◌≡◌, ◌≢◌, ℕ, zero, suc, ◌+◌, ◌-◌, ◌<◌, ◌≤◌, List, [], ◌∷◌, ◌++◌, length, get_or, Some, refl, ap, ◌∙◌, arith}
 use Rattle.std.proofs.lemmas.Grind.{common_steps}
-use Rattle.std.specs.List.{slice_get, list_any}
+use Rattle.std.specs.List.{slice_get}
 use Rattle.bs_script.specs.Texts.{piece, pieces, AreEnds}
 
 pub length-pieces : (text : List ℕ) (from : ℕ) (ends : List ℕ) → length (pieces text from ends) ≡ length ends
@@ -52,19 +52,3 @@ pieces-push text more from [] next h e = ap (λ x. x ∷ []) (piece-rest text mo
 pieces-push text more from (to ∷ ends) next h e =
     let first : piece (text ++ more) from to ≡ piece text from to = piece-append text more from to h.0 (from_below_last to ends (length text) h.1) in
     ap (λ x. x ∷ pieces (text ++ more) to (ends ++ next ∷ [])) first ∙ ap (λ x. piece text from to ∷ x) (pieces-push text more to ends next h.1 e)
-
--- none of the first texts is the one that is looked for
-pub list_any-more : {A : Type 0} (f : A → Bool) (xs : List A) (k : ℕ) (x : A) → slice_get xs k ≡ Some x → list_any f (take k xs) ≡ false → f x ≡ false
-    → list_any f (take (suc k) xs) ≡ false
-list_any-more f [] k x e h n = absurd (cc)
-list_any-more f (y ∷ ys) zero x e h n = grind rules
-list_any-more f (y ∷ ys) (suc k) x e h n = grind (rules, list_any-more f ys k x e)
-
-pub list_any-next : {A : Type 0} (f : A → Bool) (xs : List A) (k : ℕ) (x : A) → slice_get xs k ≡ Some x → list_any f (take k xs) ≡ false → f x ≡ false
-    → list_any f (take (k + 1) xs) ≡ false
-list_any-next f xs k x e h n = rw (add-one k) (list_any-more f xs k x e h n)
-
-pub list_any-found : {A : Type 0} (f : A → Bool) (xs : List A) (k : ℕ) (x : A) → slice_get xs k ≡ Some x → f x ≡ true → list_any f xs ≡ true
-list_any-found f [] k x e h = absurd (cc)
-list_any-found f (y ∷ ys) zero x e h = grind rules
-list_any-found f (y ∷ ys) (suc k) x e h = grind (rules, list_any-found f ys k x e h)

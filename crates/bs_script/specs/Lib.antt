@@ -1,5 +1,6 @@
 pub mod Words
 pub mod Lines
+pub mod Places
 pub mod Blocks
 pub mod Reasons
 pub mod Grammar

@@ -53,7 +53,7 @@ fn table_named<'a>(
     requires stages { ForSome stages (λ n. (0 < n) × (n ≤ MAX_STAGES)) }
     requires colours { ForSome colours (λ n. (0 < n) × (n ≤ MAX_COLOURS)) }
     ensures value { table_named script.now name.now stages colours ≡ after_first script.now result }
-    ensures sound { IfOk result IsOpening }
+    ensures sound { IfOk result (IsOpening script.now) }
 {
     if script.tables().len() == MAX_TABLES {
         return Err(Reason::TooMany);
@@ -74,7 +74,7 @@ fn table_named<'a>(
 /// The words after `tableau`.
 fn table_line<'a>(script: &Script, mut words: Words<'a>) -> Result<Opening<'a>, Reason>
     ensures value { table_line script.now words.entry ≡ after_first script.now result }
-    ensures sound { IfOk result IsOpening }
+    ensures sound { IfOk result (IsOpening script.now) }
 {
     let (Some(name), Some(stages)) = (words.next(), words.next()) else {
         return Err(Reason::Word);
@@ -105,7 +105,7 @@ fn session_line<'a>(script: &Script, words: Words<'a>) -> Result<Opening<'a>, Re
 /// What a line with this first word and these further words says.
 fn block_in<'a>(script: &Script, first: &[u8], words: Words<'a>) -> Result<Opening<'a>, Reason>
     ensures value { block_line script.now (first.now ∷ words.entry) ≡ after_first script.now result }
-    ensures sound { IfOk result IsOpening }
+    ensures sound { IfOk result (IsOpening script.now) }
 {
     if first == b"tableau".as_slice() {
         table_line(script, words)
@@ -123,7 +123,7 @@ fn opening_in<'a>(
     mut words: Words<'a>,
 ) -> Result<Opening<'a>, Reason>
     ensures value { line_at script.now at_start words.entry ≡ after_first script.now result }
-    ensures sound { IfOk result IsOpening }
+    ensures sound { IfOk result (IsOpening script.now) }
 {
     let Some(first) = words.next() else {
         return Err(Reason::Word);
@@ -142,7 +142,7 @@ pub fn read_opening<'a>(
     line: &'a [u8],
 ) -> Result<Opening<'a>, Reason>
     ensures value { moved script.now (place_at at_start) line.now ≡ after_first script.now result }
-    ensures sound { IfOk result IsOpening }
+    ensures sound { IfOk result (IsOpening script.now) }
 {
     if has_bad_byte(line) {
         return Err(Reason::Byte);

@@ -3,14 +3,14 @@
 //! What a function of this file says of the lines: what is left of the input means the same before and after, where
 //! the places are those of the grammar.
 
-ghost use Rattle.std.specs.Prelude.{◌≡◌, ℕ, ◌<◌, ◌≤◌, ◌↔◌, List, [], length, Ok, MatchResult, IfOk, OnOk};
+ghost use Rattle.std.specs.Prelude.{◌≡◌, ◌≢◌, ℕ, ◌<◌, ◌≤◌, ◌↔◌, false, List, [], length, Ok, MatchResult, IfOk, OnOk};
 ghost use Rattle.bs_tableau.specs.Table.{Table, row_count};
 ghost use Rattle.bs_tableau.specs.declared.TheConstants.{MAX_STAGES, MAX_COLOURS};
-ghost use Rattle.bs_script.specs.Blocks.{ScriptLines, with_table, with_session};
+ghost use Rattle.bs_script.specs.Blocks.{ScriptLines, has_name, with_table, with_session};
 ghost use Rattle.bs_script.specs.Grammar.{at_line, moved, reason_of, rest_of, script};
 ghost use Rattle.bs_script.specs.Grammar.Place.{outside, in_table, in_session};
 ghost use Rattle.bs_script.specs.Reading.{Fails, place_at, after_row, after_command};
-ghost use Rattle.bs_script.specs.declared.reader.Inside.TheVariants.{Ended};
+ghost use Rattle.bs_script.specs.declared.reader.Inside.TheVariants.{More, Ended};
 ghost use Rattle.bs_script.specs.declared.reason.Reason.TheVariants.{End};
 ghost use Rattle.bs_script.specs.declared.reason.ScriptFault.TheVariants.{Refused};
 
@@ -81,6 +81,7 @@ fn read_tableau(
     mut builder: Builder,
     lines: &mut Lines<'_>,
 ) -> Result<(), ScriptFault>
+    requires fresh { has_name script.old name.now ≡ false }
     ensures rest { MatchResult result
         (λ _. rest_of script.old (in_table name.now builder) lines.old ≡ rest_of script.new outside lines.new)
         (λ e. Fails e (rest_of script.old (in_table name.now builder) lines.old)) }
@@ -104,7 +105,8 @@ fn read_tableau(
 
 /// Reads a line in a session of so many commands: one more, or its end.
 fn read_command(count: usize, line: &[u8]) -> Result<Inside, Reason>
-    ensures { (s : ScriptLines) (commands : List (List ℕ)) → length commands ≡ count → moved s (in_session commands) line.now ≡ after_command s commands line.now result }
+    ensures room { result ≡ Ok More → count ≢ MAX_COMMANDS }
+    ensures value { (s : ScriptLines) (commands : List (List ℕ)) → length commands ≡ count → moved s (in_session commands) line.now ≡ after_command s commands line.now result }
 {
     if has_bad_byte(line) {
         Err(Reason::Byte)
@@ -123,6 +125,7 @@ fn read_session(
     mut commands: Texts,
     lines: &mut Lines<'_>,
 ) -> Result<(), ScriptFault>
+    requires few { length commands ≤ MAX_COMMANDS }
     ensures rest { MatchResult result
         (λ _. rest_of script.old (in_session commands) lines.old ≡ rest_of script.new outside lines.new)
         (λ e. Fails e (rest_of script.old (in_session commands) lines.old)) }
@@ -180,7 +183,8 @@ fn read_block(
 
 /// The tableaux and sessions that the bytes spell, or their first line that is refused, with the reason.
 ///
-/// Takes time linear in the length, and memory for one copy of each command line and name, with 8 bytes more for each.
+/// Takes memory for one copy of each command line, with 8 bytes more for each, and for two copies of each name; and
+/// time linear in the length, but that each name is looked up in a search tree of those above it.
 pub fn read(alloc: Global, bytes: &[u8]) -> Result<Script, ScriptFault>
     ensures { MatchResult result (λ s. script bytes.now ≡ Ok s) (λ e. Fails e (script bytes.now)) }
 {

@@ -120,6 +120,9 @@ fn what_a_script_holds(rt: HostRuntime) -> Result<(), Fail> {
     assert_eq!(rt; (second.stages(), second.colours()), (2, 2));
     assert_eq!(rt; script.table_name(0), b"e".as_slice());
     assert_eq!(rt; script.table_name(1), b"f".as_slice());
+    assert_eq!(rt; script.find_table(b"e"), Some(0));
+    assert_eq!(rt; script.find_table(b"f"), Some(1));
+    assert_eq!(rt; script.find_table(b"ef"), None);
     let [empty, filled] = script.sessions() else {
         return Err("two sessions")?;
     };
@@ -155,6 +158,22 @@ fn at_most_256_blocks_of_a_kind(rt: HostRuntime) -> Result<(), Fail> {
     ] {
         let input = blocks(rt.alloc(), sessions, tables)?;
         assert_eq!(rt; refusal(rt.alloc(), &input)?, (line, text));
+    }
+    Ok(())
+}
+
+#[test]
+fn each_of_256_names_is_found(rt: HostRuntime) -> Result<(), Fail> {
+    let input = blocks(rt.alloc(), 0, 256)?;
+    let Ok(script) = read(rt.alloc(), &input) else {
+        return Err("refused")?;
+    };
+    for number in 0..256_usize {
+        let name = format!(in rt.alloc(); "t{number}")?;
+        assert_eq!(rt; script.find_table(name.as_bytes()), Some(number), "{name}");
+    }
+    for absent in ["", "t", "t256", "t00", "T0", "t0 "] {
+        assert_eq!(rt; script.find_table(absent.as_bytes()), None, "{absent}");
     }
     Ok(())
 }

@@ -1,8 +1,6 @@
 //! A list of texts in one buffer. A contract sees a `Texts` as that list.
 
 ghost use Rattle.std.specs.Prelude.{◌≡◌, ◌+◌, ◌<◌, ◌≤◌, List, [], ◌∷◌, ◌++◌, ℕ, length, Some, OnOk, OnErr, slice_get};
-ghost use Rattle.std.specs.Str.{bytes_eq};
-ghost use Rattle.std.specs.List.{list_any};
 ghost use Rattle.bs_script.specs.Texts.{piece, pieces, AreEnds};
 
 use std::alloc::{AllocError, Global};
@@ -73,17 +71,5 @@ impl Texts {
         self.bytes.extend_from_slice(text)?;
         self.ends.push_reserved(self.bytes.len());
         Ok(())
-    }
-
-    /// Is the text among them?
-    pub fn contains(&self, text: &[u8]) -> bool
-        ensures { result ≡ list_any (bytes_eq text.now) self.now }
-    {
-        'places: for place in 0..self.len() {
-            if text == self.get(place) {
-                return true;
-            }
-        }
-        false
     }
 }

@@ -1,8 +1,8 @@
 use Rattle.std.proofs.Common.{◌≡◌, suc, length, refl, ap, ◌∙◌}
 use Rattle.bs_tree.specs.Tree.{Tree, order}
 use Rattle.bs_tree.specs.Canonical.{canonical_sequence, sorted}
-use Rattle.bs_tree.proofs.Joins.{length-level_sequence_at}
-use Rattle.bs_tree.proofs.Divides.{nodes-sorted}
+use Rattle.bs_tree.specs.SubtreeLaws.{length-level_sequence_at}
+use Rattle.bs_tree.specs.SortingLaws.{nodes-sorted}
 use Rattle.bs_reply.proofs.laws.order_said_is_the_trees.Goals as goal
 
 -- a code has one pair for each node
