@@ -1,0 +1,82 @@
+-- What a driver knows of a session's trees, after each kind of step.
+use Rattle.std.proofs.Common.{◌≡◌, ℕ, suc, ◌+◌, ◌<◌, Bool, true, false, zero, List, [], ◌∷◌, ◌++◌, length, length-append, Option, Some, None, Vec, Global, slice_get, refl, sym, ◌∙◌, ap, subst, inl, inr, arith, add-one}
+use Rattle.std.proofs.lemmas.Bool.{cases_Bool}
+use Rattle.bs_tree.specs.Isomorphic.{isomorphic}
+use Rattle.bs_tree.specs.Code.{tree_of}
+use Rattle.bs_script.specs.Blocks.{ScriptLines}
+use Rattle.bs_session.specs.Names.{at, Sets}
+use Rattle.bs_session.specs.Machine.{State, IsTruthful, Interns, Releases, Compares, IsDone, SaysOn}
+use Rattle.bs_session.specs.declared.step.Step.{Step}
+use Rattle.bs_session.specs.declared.step.Step.TheVariants.{Intern, Release, Same, Done}
+use Rattle.bs_session.specs.declared.live.LiveTree.{LiveTree}
+use Rattle.bs_session.specs.declared.step.Answer.{Answer}
+use Rattle.bs_session.specs.declared.step.Answer.TheVariants.{Go, Yes, No}
+use Rattle.bs_session.proofs.Sound.{at_cases}
+use Rattle.bs_drive.specs.Alone.{AreKept, yes_or_no, compared_codes, compared}
+
+some_is : (x y : LiveTree) → Some x ≡ Some y → x ≡ y
+some_is x y e = cc
+
+none_is_not : (x : LiveTree) → None ≡ Some x → ⊥
+none_is_not x e = cc
+
+get_front : {X : Type 0} (xs ys : List X) (n : ℕ) (x : X) → slice_get xs n ≡ Some x → slice_get (xs ++ ys) n ≡ Some x
+get_front [] ys n x e = cc
+get_front (y ∷ xs) ys zero x e = e
+get_front (y ∷ xs) ys (suc n) x e = get_front xs ys n x e
+
+get_last : {X : Type 0} (xs : List X) (x : X) → slice_get (xs ++ x ∷ []) (length xs) ≡ Some x
+get_last [] x = refl
+get_last (y ∷ xs) x = get_last xs x
+
+pub kept-intern : (script : ScriptLines) (codes : List (List (ℕ × ℕ))) (old new : State) (tree : ℕ) (code : List (ℕ × ℕ)) → AreKept codes old → Interns script old new tree code → AreKept (codes ++ code ∷ []) new
+kept-intern script codes old new tree code kept i = record {
+  all = omega (arith, length-append codes (code ∷ []), kept.all, i.counted);
+  each = λ name t found.
+      elim (at_cases old.live new.live i.name name _ i.live) [
+        | inl set ↦
+            let e = some_is _ t (sym set.value ∙ found) in
+            let here : slice_get (codes ++ code ∷ []) tree ≡ Some code = rw (i.next, ← kept.all) (get_last codes code) in
+            subst (λ (x : LiveTree). slice_get (codes ++ code ∷ []) x.number ≡ Some x.code) e here
+        | inr same ↦ get_front codes (code ∷ []) t.number t.code (kept.each name t (sym same ∙ found))
+      ];
+}
+
+pub kept-release : (codes : List (List (ℕ × ℕ))) (old new : State) (tree : ℕ) → AreKept codes old → Releases old new tree → AreKept codes new
+kept-release codes old new tree kept r = record {
+  all = kept.all ∙ sym r.counted;
+  each = λ name t found.
+      elim (at_cases old.live new.live r.name name None r.gone) [
+        | inl set ↦ absurd (none_is_not t (sym set.value ∙ found))
+        | inr same ↦ kept.each name t (sym same ∙ found)
+      ];
+}
+
+pub kept-same : (codes : List (List (ℕ × ℕ))) (old new : State) → new.live ≡ old.live → new.interned ≡ old.interned → AreKept codes old → AreKept codes new
+kept-same codes old new live interned kept = record {
+  all = kept.all ∙ sym interned;
+  each = λ name t found. kept.each name t (subst (λ l. at name l ≡ Some t) live found);
+}
+
+truthful_by : (pair : LiveTree × LiveTree) (b : Bool) → isomorphic (tree_of pair.0.code) (tree_of pair.1.code) ≡ b → IsTruthful (Some pair) (yes_or_no b)
+truthful_by pair true e = e
+truthful_by pair false e = e
+
+pub truthful-same : (codes : List (List (ℕ × ℕ))) (old new : State) (left right : ℕ) → AreKept codes old → Compares old new left right → IsTruthful new.asked (compared codes left right)
+truthful-same codes old new left right kept c =
+    let first : slice_get codes left ≡ Some c.first.code = subst (λ n. slice_get codes n ≡ Some c.first.code) c.left_is (kept.each c.left_live.0 c.first c.left_live.1) in
+    let second : slice_get codes right ≡ Some c.second.code = subst (λ n. slice_get codes n ≡ Some c.second.code) c.right_is (kept.each c.right_live.0 c.second c.right_live.1) in
+    rw (c.asked, first, second) (truthful_by (c.first, c.second) (isomorphic (tree_of c.first.code) (tree_of c.second.code)) refl)
+
+-- a step that is not the last leaves what is said
+pub said-more : (step : Step) (old new : List ℕ) → (IsDone step → ⊥) → SaysOn step old new → new ≡ old
+said-more (Intern tree code) old new h s = s
+said-more (Release tree) old new h s = s
+said-more (Same left right) old new h s = s
+said-more (Done reply) old new h s = absurd (h tt)
+
+pub done_is : (step : Step) → IsDone step → (reply : Vec ℕ Global) × (step ≡ Done reply)
+done_is (Intern tree code) d = absurd d
+done_is (Release tree) d = absurd d
+done_is (Same left right) d = absurd d
+done_is (Done reply) d = (reply, refl)

@@ -1,0 +1,60 @@
+//! A session by itself: its trees are kept by their numbers, and two are compared by their codes.
+
+ghost use Rattle.std.specs.Prelude.{◌≡◌, ◌<◌, length, IfOk, OnOk};
+ghost use Rattle.bs_script.specs.Blocks.{ScriptLines};
+ghost use Rattle.bs_session.specs.Machine.{State, session_at, IsTruthful, Takes};
+ghost use Rattle.bs_session.specs.Replies.{session_replies};
+ghost use Rattle.bs_drive.specs.Alone.{AreKept, compared};
+
+use bs_script::Script;
+use bs_session::{Answer, Session, Step};
+use bs_tree::Code;
+use std::alloc::{AllocError, Global};
+
+/// The codes of a session's trees, by their numbers, after a step; and the answer to the step.
+fn answer(codes: &mut Vec<Code>, step: &Step) -> Result<Answer, AllocError>
+    ensures truthful { (script : ScriptLines) (old new : State) → AreKept codes.old.items old → Takes script old new step.now → IfOk result (λ answer. IsTruthful new.asked answer) }
+    ensures kept { (script : ScriptLines) (old new : State) → AreKept codes.old.items old → Takes script old new step.now → OnOk result (AreKept codes.new.items new) }
+{
+    match step {
+        Step::Intern { code, .. } => {
+            codes.push(*code)?;
+            Ok(Answer::Go)
+        }
+        Step::Same { left, right } => Ok(compared(codes, *left, *right)),
+        Step::Release { .. } | Step::Done { .. } => Ok(Answer::Go),
+    }
+}
+
+/// Whether the trees of two numbers are isomorphic.
+fn compared(codes: &[Code], left: u32, right: u32) -> Answer
+    ensures { result ≡ compared codes.now left right }
+{
+    match (codes.get(left as usize), codes.get(right as usize)) {
+        (Some(left), Some(right)) if left.isomorphic(right) => Answer::Yes,
+        _ => Answer::No,
+    }
+}
+
+/// The replies of a session of the script, sessions counted from 0.
+///
+/// Takes memory for the session's replies, and for its trees and their codes.
+pub fn run_session_alone(
+    alloc: Global,
+    script: &Script,
+    number: usize,
+) -> Result<Vec<u8>, AllocError>
+    requires { number < length script.now.sessions }
+    ensures { IfOk result (λ reply. reply.items ≡ session_replies script.now (session_at script.now number)) }
+{
+    let mut session = Session::start(alloc, script, number)?;
+    let mut codes = Vec::new(alloc);
+    let mut given = Answer::Go;
+    'steps: loop {
+        let step = session.next(script, given)?;
+        given = answer(&mut codes, &step)?;
+        if let Step::Done { reply } = step {
+            return Ok(reply);
+        }
+    }
+}

@@ -1,0 +1,8 @@
+//! Drivers of sessions: they answer what a session asks, and give its replies.
+#![tactic(auto)]
+
+mod alone;
+#[cfg(test)]
+mod tests;
+
+pub use alone::run_session_alone;

@@ -1,0 +1,14 @@
+pub mod Errors
+pub mod Names
+pub mod Resolved
+pub mod Known
+pub mod Verbs
+pub mod Asked
+pub mod OrderConditions
+pub mod Items
+pub mod Laws
+pub mod Commands
+pub mod Replies
+pub mod Changes
+pub mod Machine
+pub mod Turns

@@ -1,0 +1,24 @@
+//! What a command comes to, once its errors are excluded.
+
+use crate::live::LiveTree;
+use bs_tree::Code;
+
+/// What an accepted command changes.
+#[derive(Clone, Copy)]
+pub(crate) enum Change<'a> {
+    /// Nothing.
+    Nothing,
+    /// The name stands for this tree from now on.
+    Name { name: &'a [u8], code: Code },
+    /// The name is free from now on.
+    Drop { name: &'a [u8] },
+}
+
+/// How far a command was carried out.
+#[derive(Clone, Copy)]
+pub(crate) enum Carried<'a> {
+    /// The reply is written.
+    Replied { change: Change<'a> },
+    /// The reply wants to know whether two trees are isomorphic.
+    Asked { left: LiveTree, right: LiveTree },
+}
