@@ -1,3 +1,2 @@
-pub mod Forms
 pub mod Fronts
-pub mod Texts
+mod Texts

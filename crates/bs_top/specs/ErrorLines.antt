@@ -1,19 +1,14 @@
 -- What is said on errs of a status, and the code that the program ends with.
 --
---   reason_text r  == the words for a reason
 --   error_line s   == the line of a status, with its line feed; nothing where all is done
 --   code_of s      == the exit code
 --
 -- Source: this project.
 -- The code writes a line in pieces, so that it takes no memory.
 use Rattle.std.specs.Prelude.{ℕ, List, [], ◌++◌, codes, decimal}
-use Rattle.bs_top.specs.declared.status.Reason.{Reason}
-use Rattle.bs_top.specs.declared.status.Reason.TheVariants.{NotYet}
+use Rattle.bs_script.specs.Reasons.{reason_text}
 use Rattle.bs_top.specs.declared.status.Status.{Status}
 use Rattle.bs_top.specs.declared.status.Status.TheVariants.{Done, Usage, Refused, ReadFault, WriteFault, NoMemory, TooLong}
-
-abbrev pub reason_text : Reason → List ℕ
-reason_text NotYet = codes "not built yet"
 
 abbrev pub error_line : Status → List ℕ
 error_line Done = []

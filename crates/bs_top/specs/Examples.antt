@@ -2,15 +2,20 @@
 use Rattle.std.specs.Prelude.{◌≡◌, [], Ok, Err, codes, refl}
 use Rattle.std.specs.Fmt.{digits}
 use Rattle.bs_levels.specs.Words.{number_of}
-use Rattle.bs_top.specs.Form.{form_of}
+use Rattle.bs_script.specs.Grammar.{moved, placed}
+use Rattle.bs_script.specs.declared.reason.Reason.TheVariants.{End}
+use Rattle.bs_session.specs.Commands.{command}
 use Rattle.bs_top.specs.Output.{text_of}
-use Rattle.bs_top.specs.declared.status.Reason.TheVariants.{NotYet}
 
-one_session : text_of (codes "session\ntree t 1,2,2,3\ninfo t\nend\n")
-    ≡ Ok (codes "session 1\ntree t 1,2,3,2\ninfo 1,2,3,2 order 4 symmetry 1 density 8 alpha 3\n")
-unfolding text_of form_of number_of digits
-one_session = refl
-
-nothing : text_of [] ≡ Err (1, NotYet)
-unfolding text_of form_of
+nothing : text_of [] ≡ Ok []
+unfolding text_of
 nothing = refl
+
+two_trees : text_of (codes "session\ntree t 1,2,2,3\ntree u 1,2,3,2\nsame t u\ninfo v\nend\n")
+    ≡ Ok (codes "session 1\ntree t 1,2,3,2\ntree u 1,2,3,2\nsame yes\nerror 3\n")
+unfolding text_of moved placed number_of digits command
+two_trees = refl
+
+no_end : text_of (codes "session\ntree t 1\n") ≡ Err (2, End)
+unfolding text_of moved placed
+no_end = refl

@@ -6,20 +6,16 @@
 --   IsFlushed written flushed            == where a sink tells its bytes: all that was written is flushed
 --   Reports old faults line new faults'  == the sink gained the line and no fault came; or its faults rose, and it
 --                                           gained some front of the line
---   refusal_of fault                     == what a fault of reading the levels is for the input
 --   Answers r said                       == r is the text that is said, or the refusal; want of memory is free
 --
 -- Source: this project; `Rose`, `Adds` and `AddsFront` are those of sources and sinks (bs_io).
 use Rattle.std.specs.Prelude.{◌≡◌, ℕ, ◌⊎◌, List, [], length, Option, Some, IfSome, Result, Ok, Err, Vec}
 use Rattle.std.specs.declared.alloc.Global.{Global}
 use Rattle.bs_io.specs.Outside.{Rose, Adds, AddsFront}
-use Rattle.bs_levels.specs.declared.read.LevelFault.{LevelFault}
-use Rattle.bs_levels.specs.declared.read.LevelFault.TheVariants.{BadLevels, BadColours, TooLarge, Memory as LevelMemory}
 use Rattle.bs_top.specs.Output.{text_of}
-use Rattle.bs_top.specs.declared.status.Reason.{Reason}
-use Rattle.bs_top.specs.declared.status.Reason.TheVariants.{NotYet}
-use Rattle.bs_top.specs.declared.text.AnswerFault.{AnswerFault}
-use Rattle.bs_top.specs.declared.text.AnswerFault.TheVariants.{Refused, Memory}
+use Rattle.bs_script.specs.declared.reason.Reason.{Reason}
+use Rattle.bs_script.specs.declared.reason.ScriptFault.{ScriptFault}
+use Rattle.bs_script.specs.declared.reason.ScriptFault.TheVariants.{Refused, Memory}
 
 abbrev pub ReadsAll : Option (List ℕ) → List ℕ → Option (List ℕ) → Type 0
 ReadsAll old input new = IfSome old (λ told. (told ≡ input) × (new ≡ Some []))
@@ -33,17 +29,10 @@ IsFlushed written flushed = IfSome written (λ all. flushed ≡ Some (length all
 abbrev pub Reports : Option (List ℕ) → ℕ → List ℕ → Option (List ℕ) → ℕ → Type 0
 Reports old faults line new faults' = (Adds old line new × (faults' ≡ faults)) ⊎ (Rose faults faults' × AddsFront old line new)
 
--- why there is no text, where the levels are not those of a tree
-abbrev pub refusal_of : LevelFault → AnswerFault
-refusal_of BadLevels = Refused 1 NotYet
-refusal_of BadColours = Refused 1 NotYet
-refusal_of TooLarge = Refused 1 NotYet
-refusal_of (LevelMemory cause) = Memory cause
-
-abbrev pub Fails : AnswerFault → Result (List ℕ) (ℕ × Reason) → Type 0
+abbrev pub Fails : ScriptFault → Result (List ℕ) (ℕ × Reason) → Type 0
 Fails (Refused line reason) said = said ≡ Err (line, reason)
 Fails (Memory cause) said = Unit {0}
 
-abbrev pub Answers : Result (Vec ℕ Global) AnswerFault → Result (List ℕ) (ℕ × Reason) → Type 0
+abbrev pub Answers : Result (Vec ℕ Global) ScriptFault → Result (List ℕ) (ℕ × Reason) → Type 0
 Answers (Ok text) said = said ≡ Ok text.items
 Answers (Err fault) said = Fails fault said

@@ -5,11 +5,12 @@ ghost use Rattle.bs_io.specs.Outside.{Rose, NoFault, TakesExactly, TakesAtMost, 
 ghost use Rattle.bs_top.specs.ErrorLines.{error_line};
 ghost use Rattle.bs_top.specs.Output.{text_of};
 ghost use Rattle.bs_top.specs.Run.{ReadsAs, IsFlushed, Reports};
-ghost use Rattle.bs_top.specs.declared.status.Reason.{Reason};
+ghost use Rattle.bs_script.specs.declared.reason.Reason.{Reason};
 
 use crate::status::Status;
-use crate::text::{AnswerFault, answer};
+use crate::text::answer;
 use bs_io::{Failed, ReadAllFault, Sink, Source, read_all, write_all};
+use bs_script::ScriptFault;
 use itoa::Buffer;
 use std::alloc::Global;
 
@@ -18,7 +19,7 @@ pub const INPUT_LIMIT: usize = 16_777_216;
 
 /// Reads the words and the input, and writes the input's text to the sink, or one line on errs.
 ///
-/// The stages come in this order: the words, the reading, the form of the input, its text, the writing. All of the text
+/// The stages come in this order: the words, the reading, the grammar, the sessions, the writing. All of the text
 /// is gathered before its first byte is written, and it is flushed once. What errs answers changes nothing.
 /// Memory is taken for the input and for its text, and none for the line on errs.
 pub fn run_alone<S: Source, K: Sink, E: Sink>(
@@ -128,8 +129,8 @@ fn run<S: Source, K: Sink>(alloc: Global, source: &mut S, sink: &mut K) -> Statu
     };
     let text = match answer(alloc, &input) {
         Ok(text) => text,
-        Err(AnswerFault::Refused { line, reason }) => return Status::Refused { line, reason },
-        Err(AnswerFault::Memory(_)) => return Status::NoMemory,
+        Err(ScriptFault::Refused { line, reason }) => return Status::Refused { line, reason },
+        Err(ScriptFault::Memory(_)) => return Status::NoMemory,
     };
     put(sink, &text)
 }

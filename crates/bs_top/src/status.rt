@@ -1,25 +1,9 @@
 //! How a run ends: a status, its exit code, and its line on errs.
 
 ghost use Rattle.std.specs.Prelude.{◌≡◌};
-ghost use Rattle.bs_top.specs.ErrorLines.{code_of, reason_text};
+ghost use Rattle.bs_top.specs.ErrorLines.{code_of};
 
-/// Why an input is refused.
-#[derive(Clone, Copy, Debug, PartialEq, Eq)]
-pub enum Reason {
-    /// The input is of a form that is not read yet.
-    NotYet,
-}
-
-impl Reason {
-    /// The words of the line on errs.
-    pub fn text(&self) -> &'static str
-        ensures { result.now ≡ reason_text self.now }
-    {
-        match self {
-            Reason::NotYet => "not built yet",
-        }
-    }
-}
+use bs_script::Reason;
 
 /// How a run ended.
 #[derive(Clone, Copy, Debug, PartialEq, Eq)]

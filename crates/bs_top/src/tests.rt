@@ -7,10 +7,9 @@ use bs_io::{MemSink, MemSource};
 use std::alloc::{AllocError, Global};
 use std::test::Fail;
 
-const INPUT: &[u8] = b"session\ntree t 1,2,2,3\ninfo t\nend\n";
+const INPUT: &[u8] = b"session\ntree t 1,2,2,3\ntree u 1,2,3,2\nsame t u\nend\n";
 
-const TEXT: &[u8] =
-    b"session 1\ntree t 1,2,3,2\ninfo 1,2,3,2 order 4 symmetry 1 density 8 alpha 3\n";
+const TEXT: &[u8] = b"session 1\ntree t 1,2,3,2\ntree u 1,2,3,2\nsame yes\n";
 
 /// How many bytes a call takes, and which call fails.
 #[derive(Clone, Copy)]
@@ -56,11 +55,6 @@ fn run_with(
     run_on(alloc, &[], input.to_vec(alloc)?, reads, writes, CALM)
 }
 
-const NOT_YET: Status = Status::Refused {
-    line: 1,
-    reason: Reason::NotYet,
-};
-
 #[test]
 fn one_session(rt: HostRuntime) -> Result<(), Fail> {
     let by_one = Calls {
@@ -81,27 +75,21 @@ fn one_session(rt: HostRuntime) -> Result<(), Fail> {
 }
 
 #[test]
-fn other_inputs_are_refused(rt: HostRuntime) -> Result<(), Fail> {
-    let inputs: [&[u8]; 10] = [
-        b"",
-        b"session\nend\n",
-        b"session\ntree t 1,2,2,3\ninfo t\nend",
-        b"session\ntree t 1,2,2,3\ninfo t\nend\n\n",
-        b"session\ntree t 1,2,2,3\ninfo u\nend\n",
-        b"session\ntree  1,2,2,3\ninfo \nend\n",
-        b"session\ntree t  1,2,2,3\ninfo t\nend\n",
-        b"session\ntree t 1,3\ninfo t\nend\n",
-        b"session\ntree t 1,2 0,0\ninfo t\nend\n",
-        b"session\r\ntree t 1\ninfo t\nend\n",
+fn refused_scripts(rt: HostRuntime) -> Result<(), Fail> {
+    let inputs: [(&[u8], &[u8]); 4] = [
+        (b"session\ntree t 1\n", b"bseries: line 2: end missing\n"),
+        (b"format 2\n", b"bseries: line 1: unknown format\n"),
+        (b"tableau one 1\nb 1\n", b"bseries: line 2: line missing\n"),
+        (
+            b"tableau one 1\na 1/0\n",
+            b"bseries: line 2: bad fraction\n",
+        ),
     ];
-    for input in inputs {
+    for (input, line) in inputs {
         let outcome = run_with(rt.alloc(), input, CALM, CALM)?;
-        assert_eq!(rt; outcome.status, NOT_YET);
+        assert_eq!(rt; outcome.status.code(), 3);
         assert_eq!(rt; outcome.sink.bytes(), b"".as_slice());
-        assert_eq!(rt;
-            outcome.errs.bytes(),
-            b"bseries: line 1: not built yet\n".as_slice()
-        );
+        assert_eq!(rt; outcome.errs.bytes(), line);
     }
     Ok(())
 }
@@ -157,7 +145,8 @@ fn the_longest_input(rt: HostRuntime) -> Result<(), Fail> {
     };
     let input = vec![in alloc; b'#'; 16_777_216]?;
     let outcome = run_on(alloc, &[], input, reads, CALM, CALM)?;
-    assert_eq!(rt; outcome.status, NOT_YET);
+    assert_eq!(rt; outcome.status, Status::Done);
+    assert_eq!(rt; outcome.sink.bytes(), b"".as_slice());
     let input = vec![in alloc; b'#'; 16_777_217]?;
     let outcome = run_on(alloc, &[], input, reads, CALM, CALM)?;
     assert_eq!(rt; outcome.status, Status::TooLong);
@@ -175,8 +164,9 @@ fn errs_that_fail(rt: HostRuntime) -> Result<(), Fail> {
         step: 4,
         failing: 3,
     };
-    let outcome = run_on(alloc, &[], Vec::new(alloc), CALM, CALM, reports)?;
-    assert_eq!(rt; outcome.status, NOT_YET);
+    let refused = b"format 2\n".to_vec(alloc)?;
+    let outcome = run_on(alloc, &[], refused, CALM, CALM, reports)?;
+    assert_eq!(rt; outcome.status.code(), 3);
     assert_eq!(rt; outcome.errs.bytes(), b"bseries:".as_slice());
     let outcome = run_on(alloc, &[], INPUT.to_vec(alloc)?, CALM, CALM, reports)?;
     assert_eq!(rt; outcome.status, Status::Done);
@@ -188,7 +178,7 @@ fn lines_and_codes(rt: HostRuntime) -> Result<(), Fail> {
     let alloc = rt.alloc();
     let last = Status::Refused {
         line: u64::MAX,
-        reason: Reason::NotYet,
+        reason: Reason::Word,
     };
     let cases: [(Status, u8, &[u8]); 4] = [
         (Status::Done, 0, b""),
@@ -200,7 +190,7 @@ fn lines_and_codes(rt: HostRuntime) -> Result<(), Fail> {
         (
             last,
             3,
-            b"bseries: line 18446744073709551615: not built yet\n",
+            b"bseries: line 18446744073709551615: unknown line\n",
         ),
         (Status::NoMemory, 6, b"bseries: out of memory\n"),
     ];
