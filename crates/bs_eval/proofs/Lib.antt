@@ -1,0 +1,9 @@
+pub mod Lists
+pub mod Units
+pub mod Carried
+pub mod Plans
+pub mod Stacks
+pub mod TermValues
+pub mod Spreads
+pub mod Answered
+pub mod Methods

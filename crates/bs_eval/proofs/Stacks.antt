@@ -1,0 +1,37 @@
+-- A frame put on the others, and taken off.
+use Rattle.std.proofs.Common.{◌≡◌, ℕ, ◌-◌, List, take, [], ◌∷◌, ◌++◌, length, refl, sym, ◌∙◌, ap, subst, arith}
+use Rattle.bs_tableau.specs.Table.{Table}
+use Rattle.bs_series.specs.Series.{Series}
+use Rattle.bs_eval.specs.Frames.{IsOn, Awaits}
+use Rattle.bs_eval.specs.Machine.{Stands}
+use Rattle.bs_eval.specs.declared.frame.Pair.{Pair}
+use Rattle.bs_eval.specs.declared.frame.Frame.{Frame}
+
+pub stands_push : (tables : List Table) (es : List Series) (of : Pair) (fs : List Frame) (f : Frame) (p : Pair) → Stands tables es of fs f.pair → Awaits es f p → IsOn tables es f
+    → Stands tables es of (fs ++ f ∷ []) p
+stands_push tables es of [] f p h a on = (p, record { of = sym h; awaits = a; on = on }, refl)
+stands_push tables es of (g ∷ gs) f p h a on = (h.0, h.1, stands_push tables es h.0 gs f p h.2 a on)
+
+pub record Popped (tables : List Table) (es : List Series) (of : Pair) (fs : List Frame) (f : Frame) (p : Pair) : Type 0 where
+  pub stands : Stands tables es of fs f.pair
+  pub awaits : Awaits es f p
+  pub on : IsOn tables es f
+
+pub stands_pop : (tables : List Table) (es : List Series) (of : Pair) (fs : List Frame) (f : Frame) (p : Pair) → Stands tables es of (fs ++ f ∷ []) p → Popped tables es of fs f p
+stands_pop tables es of [] f p h =
+    record { stands = sym h.1.of; awaits = subst (Awaits es f) h.2 h.1.awaits; on = h.1.on }
+stands_pop tables es of (g ∷ gs) f p h =
+    let r = stands_pop tables es h.0 gs f p h.2 in
+    record { stands = (h.0, h.1, r.stands); awaits = r.awaits; on = r.on }
+
+pub popped : (tables : List Table) (es : List Series) (of : Pair) (items fs : List Frame) (f : Frame) (p : Pair) → items ≡ fs ++ f ∷ [] → Stands tables es of items p → Popped tables es of fs f p
+popped tables es of items fs f p e h = stands_pop tables es of fs f p (subst (λ xs. Stands tables es of xs p) e h)
+
+pub alone : (tables : List Table) (es : List Series) (of : Pair) (fs : List Frame) (p : Pair) → length fs ≡ 0 → Stands tables es of fs p → of ≡ p
+alone tables es of [] p e h = h
+alone tables es of (f ∷ fs) p e h = absurd (omega arith)
+
+pub emptied : (items rest : List Frame) (n : ℕ) → n ≡ 0 → rest ≡ take (n - 1) items → items ≡ rest ++ [] → length items ≡ 0
+emptied items rest n z r i =
+    let e : rest ≡ [] = r ∙ ap (λ (k : ℕ). take (k - 1) items) z in
+    ap length (i ∙ ap (λ (xs : List Frame). xs ++ []) e)

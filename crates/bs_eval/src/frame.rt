@@ -1,0 +1,254 @@
+//! A value in the making.
+
+ghost use Rattle.std.specs.Prelude.{◌≡◌, ◌<◌, ◌≤◌, List, length, MatchOption, IfSome, IsSome, IsSomeAnd, Some, [], ℕ};
+ghost use Rattle.std.specs.List.{AllByRecursion};
+ghost use Rattle.bs_frac.specs.Written.{checked, product_all};
+ghost use Rattle.bs_tableau.specs.Table.{Table};
+ghost use Rattle.bs_series.specs.Series.{Series};
+ghost use Rattle.bs_series.specs.Accepted.{Suits};
+ghost use Rattle.bs_series.specs.Plan.{HasPlan};
+ghost use Rattle.bs_series.specs.SeriesCode.{factor_at, written_at};
+ghost use Rattle.bs_series.specs.Value.{signed_by};
+ghost use Rattle.bs_series.specs.Expressions.{series_at};
+ghost use Rattle.bs_eval.specs.Steps.{factor_in, applied, over};
+ghost use Rattle.bs_eval.specs.Left.{FactorIn};
+ghost use Rattle.bs_eval.specs.declared.factor.TheConstants.{MAX_FACTORS};
+ghost use Rattle.bs_eval.specs.Frames.{IsPair, pair_in, awaited_at, awaited, value_at_pair, FrameIn, Knows, GoesOn, IsOn, HasCome, Awaits};
+
+use crate::direct::{direct_value, exact_value};
+use crate::factor::{Factor, Operation, Term};
+use crate::known::Known;
+use crate::plan::Plan;
+use arrayvec::ArrayVec;
+use bs_frac::{Coef, Frac};
+use bs_series::{Book, SeriesId};
+use bs_steps::Steps;
+use bs_tree::Code;
+use std::sync::ledger::Ledger;
+
+/// A series at a tree whose value is awaited.
+#[derive(Clone, Copy)]
+pub(crate) struct Pair {
+    pub(crate) series: SeriesId,
+    pub(crate) code: Code,
+}
+
+/// The value of a series at a tree in the making: the sum of the terms so far, the term that is being worked out with the
+/// values of its first factors, and what is left of the plan.
+#[derive(Drop)]
+pub(crate) struct Frame {
+    pub(crate) pair: Pair,
+    pub(crate) sum: Coef,
+    pub(crate) term: Term,
+    pub(crate) known: Known,
+    pub(crate) plan: Plan,
+}
+
+/// A value with the sign of the tree's order.
+fn turned(value: Coef, code: &Code) -> Coef
+    ensures { result ≡ signed_by checked (length code.now) value }
+{
+    let mut turned = value;
+    'nodes: for node in 0..code.order() {
+        turned = turned.opposite();
+    }
+    turned
+}
+
+/// The series and the tree of a factor.
+fn pair_of(factor: &Factor) -> Option<Pair>
+    ensures { result ≡ pair_in factor.now }
+{
+    match factor {
+        Factor::Fixed { .. } | Factor::Flow { .. } => None,
+        Factor::At { series, code } | Factor::Turned { series, code } => Some(Pair {
+            series: *series,
+            code: *code,
+        }),
+    }
+}
+
+/// The value of a factor, where that of its series at its tree is handed in.
+fn handed(value: Coef, factor: &Factor) -> Coef
+    ensures { (tables : List Table) (es : List Series) → IsSomeAnd (pair_in factor.now) (λ pair. value ≡ value_at_pair tables es pair) → result ≡ factor_at checked (written_at tables) (factor_in es factor.now) }
+{
+    match factor {
+        Factor::Turned { code, .. } => turned(value, code),
+        Factor::Fixed { .. } | Factor::Flow { .. } | Factor::At { .. } => value,
+    }
+}
+
+/// The value of a factor that needs no look.
+fn settled(book: &Book, factor: &Factor) -> Option<Coef>
+    requires { FactorIn (length book.now) factor.now }
+    ensures { MatchOption result (IsSomeAnd (pair_in factor.now) (λ pair. IsPair book.now pair)) (λ value. (tables : List Table) → value ≡ factor_at checked (written_at tables) (factor_in book.now factor.now)) }
+{
+    match factor {
+        Factor::Fixed { value } => Some(Coef::Value(*value)),
+        Factor::Flow { code } => Some(exact_value(code)),
+        Factor::At { series, code } => direct_value(book, *series, code),
+        Factor::Turned { series, code } => match direct_value(book, *series, code) {
+            None => None,
+            Some(value) => Some(turned(value, code)),
+        },
+    }
+}
+
+/// The factors multiplied from the left, starting with 1.
+fn product(factors: &[Coef]) -> Coef
+    ensures { result ≡ product_all checked factors.now }
+{
+    let mut partial = Coef::Value(Frac::whole(1));
+    'factors: for factor in factors {
+        partial = partial.times(factor);
+    }
+    partial
+}
+
+/// The sum with a term. The divisor of a series that a book accepted is not 0.
+fn applied(sum: &Coef, operation: Operation, factors: &[Coef]) -> Coef
+    ensures { result ≡ applied sum.now operation factors.now }
+{
+    match operation {
+        Operation::Add => sum.plus(&product(factors)),
+        Operation::Subtract => sum.minus(&product(factors)),
+        Operation::Divide => match factors.first() {
+            None => Coef::Overflow,
+            Some(by) => divided(sum, by),
+        },
+    }
+}
+
+/// The quotient, Overflow where the divisor is 0.
+fn divided(sum: &Coef, by: &Coef) -> Coef
+    ensures { result ≡ over by.now sum.now }
+{
+    if by.is_zero() {
+        Coef::Overflow
+    } else {
+        sum.quotient(by)
+    }
+}
+
+/// Puts in the values of the next factors that need no look, up to the first that is awaited.
+fn settle(book: &Book, factors: &[Factor], known: &mut Known) -> Option<Pair>
+    requires in_book { AllByRecursion (FactorIn (length book.now)) factors.now }
+    requires room { length factors.now ≤ MAX_FACTORS }
+    requires within { length known.old ≤ length factors.now }
+    ensures reached { MatchOption result (length known.new ≡ length factors.now) (λ pair. awaited_at factors.now (length known.new) ≡ Some pair) }
+    ensures looked { IfSome result (λ pair. IsPair book.now pair) }
+    ensures knows { (tables : List Table) → Knows tables book.now factors.now known.old → Knows tables book.now factors.now known.new }
+{
+    'factors: for place in known.len()..factors.len() {
+        let factor = factors[place];
+        match settled(book, &factor) {
+            None => return pair_of(&factor),
+            Some(value) => known.push(value),
+        }
+    }
+    None
+}
+
+impl Frame {
+    /// Before the first term.
+    pub(crate) fn start<L: Ledger>(book: &Book, pair: &Pair, steps: &mut Steps<L>) -> Frame
+        requires known { pair.now.series < length book.now }
+        requires planned { HasPlan (series_at book.now pair.now.series) }
+        ensures pair { result.pair ≡ pair.now }
+        ensures known { FrameIn (length book.now) result }
+        ensures goes_on { (tables : List Table) → Suits tables book.now → GoesOn tables book.now result }
+    {
+        Frame {
+            pair: *pair,
+            sum: Coef::Value(Frac::whole(0)),
+            term: Term {
+                operation: Operation::Add,
+                factors: ArrayVec::new(),
+            },
+            known: Known::new(),
+            plan: Plan::new(book, pair.series, pair.code, steps),
+        }
+    }
+
+    /// Begins the work on a term.
+    fn load(&mut self, term: Term)
+        ensures { self.new ≡ record self.old { term = term; known = [] } }
+    {
+        self.term = term;
+        self.known = Known::new();
+    }
+
+    /// Brings the term into the sum.
+    fn apply(&mut self)
+        ensures { self.new ≡ record self.old { sum = applied self.old.sum self.old.term.operation self.old.known } }
+    {
+        self.sum = applied(&self.sum, self.term.operation, self.known.as_slice());
+    }
+
+    /// Goes on with the factors of the term, and brings it into the sum where none of them is awaited.
+    fn finish_term(&mut self, book: &Book) -> Option<Pair>
+        requires known { FrameIn (length book.now) self.old }
+        requires within { length self.old.known ≤ length self.old.term.factors.items }
+        ensures pair { self.new.pair ≡ self.old.pair }
+        ensures plan { self.new.plan ≡ self.old.plan }
+        ensures known { FrameIn (length book.now) self.new }
+        ensures awaits { IfSome result (λ pair. Awaits book.now self.new pair) }
+        ensures come { (tables : List Table) → IsOn tables book.now self.old → MatchOption result (GoesOn tables book.now self.new) (λ _. IsOn tables book.now self.new) }
+    {
+        let awaited = settle(book, self.term.factors.as_slice(), &mut self.known);
+        if let None = awaited {
+            self.apply();
+        }
+        awaited
+    }
+
+    /// Goes on with the next term, up to the first factor that is awaited.
+    pub(crate) fn go_on<L: Ledger>(&mut self, book: &Book, steps: &mut Steps<L>) -> Option<Pair>
+        requires known { FrameIn (length book.now) self.old }
+        ensures pair { self.new.pair ≡ self.old.pair }
+        ensures awaits { IfSome result (λ pair. Awaits book.now self.new pair) }
+        ensures come { (tables : List Table) → GoesOn tables book.now self.old → HasCome tables book.now result self.new }
+    {
+        'terms: while let Some(term) = self.plan.next(steps) {
+            self.load(term);
+            let awaited = self.finish_term(book);
+            if awaited.is_some() {
+                return awaited;
+            }
+        }
+        None
+    }
+
+    /// Puts in the value that is awaited, and goes on to the next factor that is.
+    pub(crate) fn take<L: Ledger>(
+        &mut self,
+        book: &Book,
+        value: Coef,
+        steps: &mut Steps<L>,
+    ) -> Option<Pair>
+        requires known { FrameIn (length book.now) self.old }
+        requires waits { IsSome (awaited self.old) }
+        ensures pair { self.new.pair ≡ self.old.pair }
+        ensures awaits { IfSome result (λ pair. Awaits book.now self.new pair) }
+        ensures come { (tables : List Table) → IsOn tables book.now self.old → IsSomeAnd (awaited self.old) (λ pair. value ≡ value_at_pair tables book.now pair) → HasCome tables book.now result self.new }
+    {
+        self.put(value);
+        let awaited = self.finish_term(book);
+        if awaited.is_some() {
+            return awaited;
+        }
+        self.go_on(book, steps)
+    }
+
+    /// Puts in the value that is awaited.
+    fn put(&mut self, value: Coef)
+        requires waits { IsSome (awaited self.old) }
+        ensures rest { self.new ≡ record self.old { known = self.new.known } }
+        ensures within { length self.new.known ≤ length self.new.term.factors.items }
+        ensures on { (tables : List Table) (es : List Series) → IsOn tables es self.old → IsSomeAnd (awaited self.old) (λ pair. value ≡ value_at_pair tables es pair) → IsOn tables es self.new }
+    {
+        let factors = self.term.factors.as_slice();
+        let factor = factors[self.known.len()];
+        self.known.push(handed(value, &factor));
+    }
+}

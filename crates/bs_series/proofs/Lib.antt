@@ -1,0 +1,16 @@
+pub mod Examples
+pub mod Solve
+pub mod Totals
+pub mod Inverse
+pub mod Solved
+pub mod Planned
+pub mod Below
+pub mod Items
+pub mod Needs
+pub mod Keeps
+pub mod Adjoint
+pub mod Signs
+pub mod Written
+pub mod Solvable
+pub mod Nodes
+pub mod KeyLaws

@@ -1,0 +1,14 @@
+pub mod Series
+pub mod SeriesData
+pub mod Value
+pub mod Plan
+pub mod SeriesCode
+pub mod PlanItems
+pub mod Laws
+pub mod Keys
+pub mod Accepted
+pub mod Expressions
+pub use Rattle.bs_frac.specs.Fraction
+pub use Rattle.bs_frac.specs.Written
+pub use Rattle.bs_tree.specs.Tree
+pub use Rattle.bs_tree.specs.Code
