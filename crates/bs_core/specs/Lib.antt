@@ -1,0 +1,5 @@
+pub mod Codes
+pub mod Machine
+pub mod Canonical
+pub mod Laws
+pub mod Keys

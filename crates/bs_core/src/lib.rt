@@ -1,0 +1,21 @@
+//! The store of trees as a machine over events: its states, what each event needs and does, and what holds of all runs.
+//!
+//! The code has the table of one stripe and the list of one party. The machine itself stands in `specs/`.
+#![tactic(auto)]
+
+mod event;
+mod hand;
+mod key;
+pub mod laws;
+mod name;
+mod names;
+mod table;
+#[cfg(test)]
+mod tests;
+
+pub use event::{Event, Outcome};
+pub use hand::{Hand, Taken};
+pub use key::Key;
+pub use name::{Name, stripe_of};
+pub use names::Names;
+pub use table::{Entries, Entry, Held, Table};
