@@ -6,3 +6,4 @@ pub mod Skeletons
 pub mod Colours
 pub mod Items
 pub mod Next
+pub mod Known

@@ -7,3 +7,4 @@ pub use Rattle.bs_tree.specs.Tree
 pub use Rattle.bs_tree.specs.Canonical
 pub use Rattle.bs_tree.specs.Code
 pub use Rattle.bs_tree.specs.SortingLaws
+pub mod Known

@@ -1,11 +1,12 @@
 //! The walk over the partitions of a tree.
 //!
 //! Contracts see a `Parts` as the list of the items that are left, each a `Part` with its codes. No call takes memory. An
-//! item of a tree of n nodes takes about n^2 steps, and there are 2^(n-1) items.
+//! item of a tree of n nodes takes about n^2 steps, and there are 2^(n-1) items. From one item to the next only the parts
+//! are made again that the edges changed may be in.
 ghost use Rattle.std.specs.Prelude.{◌≡◌, ◌+◌, [], ◌∷◌, MatchOption};
 ghost use Rattle.bs_part.specs.Partition.{part_codes};
 
-use crate::walk::{cut_next, last_kept, part_of};
+use crate::walk::{cut_next, ends_of, forget, last_kept, part_of};
 use bs_steps::Steps;
 use bs_tree::{Code, CodeList, MAX_NODES};
 use std::marker::Model;
@@ -25,12 +26,15 @@ pub struct Part {
 pub struct Parts {
     code: Code,
     kept: [bool; MAX_NODES],
+    ends: [usize; MAX_NODES],
+    known: [Option<Code>; MAX_NODES],
     done: bool,
 }
 
 impl Model for Parts {
     ghost use Rattle.std.specs.Prelude.{ℕ, List, ◌≡◌, length};
     ghost use Rattle.bs_tree.specs.declared.TheConstants.{MAX_NODES};
+    ghost use Rattle.bs_part.specs.Known.{AreEnds, AreKnown};
     ghost use Rattle.bs_part.specs.Partition.{PartCodes};
     ghost use Rattle.bs_part.specs.Walk.{left};
 
@@ -38,7 +42,8 @@ impl Model for Parts {
 
     ghost view = { λ a. left a.done a.code a.kept };
 
-    ghost invariant = { λ a. length a.kept ≡ MAX_NODES };
+    ghost invariant = { λ a. (length a.kept ≡ MAX_NODES) × (length a.ends ≡ MAX_NODES) × (length a.known ≡ MAX_NODES)
+        × AreEnds a.code a.ends × AreKnown a.code a.kept a.known };
 }
 
 impl Parts {
@@ -46,9 +51,12 @@ impl Parts {
     pub fn new(code: Code) -> Parts
         ensures { result ≡ part_codes code }
     {
+        let ends = ends_of(&code);
         Parts {
             code,
             kept: [true; MAX_NODES],
+            ends,
+            known: [None; MAX_NODES],
             done: false,
         }
     }
@@ -61,9 +69,12 @@ impl Parts {
         if self.done {
             return None;
         }
-        let item = part_of(&self.code, &self.kept);
+        let item = part_of(&self.code, &self.kept, &mut self.known);
         match last_kept(&self.code, &self.kept) {
-            Some(node) => cut_next(&mut self.kept, node),
+            Some(node) => {
+                cut_next(&mut self.kept, node);
+                forget(&mut self.known, &self.ends, node);
+            }
             None => self.done = true,
         }
         steps.tick();

@@ -3,6 +3,7 @@
 //! Each node has a letter, in preorder: `true` where the edge above it is kept. The root's is not read.
 ghost use Rattle.std.specs.Prelude.{◌≡◌, ◌<◌, ◌≤◌, ◌+◌, [], ◌∷◌, drop, length, option_map, replicate, suc, IfSome};
 ghost use Rattle.bs_part.specs.Partition.{codes_of, rooted};
+ghost use Rattle.bs_part.specs.Known.{AreEnds, AreKnown, IsPart, StaysKnown};
 ghost use Rattle.bs_part.specs.Walk.{cut_after, hung_pairs, item_by, last_kept, letters, part_pairs, skeleton_of};
 ghost use Rattle.bs_tree.specs.Canonical.{canonical_sequence};
 ghost use Rattle.bs_tree.specs.Code.{IsCode, tree_of};
@@ -10,31 +11,85 @@ ghost use Rattle.bs_tree.specs.Code.{IsCode, tree_of};
 use crate::parts::Part;
 use bs_tree::{Code, CodeList, MAX_NODES, Pairs};
 
-/// The item that keeps the edges above these nodes.
-pub(crate) fn part_of(code: &Code, kept: &[bool]) -> Part
-    requires { length code.now ≤ length kept.now }
-    ensures { record { skeleton = result.skeleton; parts = result.parts } ≡ item_by code.now (letters code.now kept.now) }
+/// The ends of the subtrees of the nodes; 0 for a leaf, whose part no edge changes, and behind the last node.
+pub(crate) fn ends_of(code: &Code) -> [usize; MAX_NODES]
+    ensures { AreEnds code.now result }
+{
+    let mut ends = [0; MAX_NODES];
+    'nodes: for node in 0..code.order() {
+        let end = code.subtree_end(node);
+        if end > node + 1 {
+            ends[node] = end;
+        }
+    }
+    ends
+}
+
+/// The item that keeps the edges above these nodes. A part that is known is not made again, and each of the item's is known
+/// afterwards.
+pub(crate) fn part_of(code: &Code, kept: &[bool], known: &mut [Option<Code>]) -> Part
+    requires letters { length code.now ≤ length kept.now }
+    requires room { length code.now ≤ length known.old }
+    requires known { AreKnown code.now kept.now known.old }
+    ensures item { record { skeleton = result.skeleton; parts = result.parts } ≡ item_by code.now (letters code.now kept.now) }
+    ensures known { AreKnown code.now kept.now known.new }
+    ensures room { length known.new ≡ length known.old }
 {
     Part {
         skeleton: skeleton(code, kept),
-        parts: parts(code, kept),
+        parts: parts(code, kept, known),
     }
 }
 
 /// The parts, by their roots in preorder.
-fn parts(code: &Code, kept: &[bool]) -> CodeList
-    requires { length code.now ≤ length kept.now }
-    ensures { result ≡ (item_by code.now (letters code.now kept.now)).parts }
+fn parts(code: &Code, kept: &[bool], known: &mut [Option<Code>]) -> CodeList
+    requires letters { length code.now ≤ length kept.now }
+    requires room { length code.now ≤ length known.old }
+    requires known { AreKnown code.now kept.now known.old }
+    ensures parts { result ≡ (item_by code.now (letters code.now kept.now)).parts }
+    ensures known { AreKnown code.now kept.now known.new }
+    ensures room { length known.new ≡ length known.old }
 {
     let count = code.order();
     let mut parts = CodeList::new();
-    parts.push(code.pruned(0, kept));
+    parts.push(part_at(code, kept, known, 0));
     'nodes: for node in 1..count {
         if !kept[node] {
-            parts.push(code.pruned(node, kept));
+            parts.push(part_at(code, kept, known, node));
         }
     }
     parts
+}
+
+/// The part whose root is this node.
+fn part_at(code: &Code, kept: &[bool], known: &mut [Option<Code>], node: usize) -> Code
+    requires node { node < length code.now }
+    requires letters { length code.now ≤ length kept.now }
+    requires room { length code.now ≤ length known.old }
+    requires known { AreKnown code.now kept.now known.old }
+    ensures part { IsPart code.now kept.now node result }
+    ensures known { AreKnown code.now kept.now known.new }
+    ensures room { length known.new ≡ length known.old }
+{
+    if let Some(part) = known[node] {
+        return part;
+    }
+    let part = code.pruned(node, kept);
+    known[node] = Some(part);
+    part
+}
+
+/// Forgets the parts whose root's subtree ends behind this node.
+pub(crate) fn forget(known: &mut [Option<Code>], ends: &[usize], node: usize)
+    requires { length known.old ≤ length ends.now }
+    ensures stays { StaysKnown ends.now node known.old known.new }
+    ensures room { length known.new ≡ length known.old }
+{
+    'places: for place in 0..known.len() {
+        if ends[place] > node {
+            known[place] = None;
+        }
+    }
 }
 
 /// One node of colour 0 for each part.

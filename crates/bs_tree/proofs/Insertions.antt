@@ -1,7 +1,7 @@
 -- The loops that put trees in.
-use Rattle.std.proofs.Common.{◌≡◌, ℕ, suc, zero, ◌+◌, ◌-◌, ◌≤◌, ◌<◌, true, false, cond, List, [], ◌∷◌, ◌++◌, length, take, drop, get_or, refl, ap, ap₂, subst, sym, ◌∙◌, arith, append_assoc, append-nil, length-drop, All}
-use Rattle.std.proofs.Math.Seq.{take-take}
-use Rattle.std.proofs.lemmas.List.{drop-drop, drop_at, drop_all, drop_more, length-take-le, take_all, take_at, take_more}
+use Rattle.std.proofs.Common.{◌≡◌, ℕ, suc, zero, ◌+◌, ◌-◌, ◌≤◌, ◌<◌, true, false, cond, List, [], ◌∷◌, ◌++◌, length, take, drop, get_or, refl, ap, ap₂, subst, sym, ◌∙◌, arith, append_assoc, append-nil, length-drop, reverse, All}
+use Rattle.std.proofs.Math.Seq.{take-take, take-append_seam, drop-append_seam}
+use Rattle.std.proofs.lemmas.List.{drop-drop, drop_at, drop_all, drop_more, length-take-le, length-reverse, reverse-append, reverse-reverse, take_all, take_at, take_more}
 use Rattle.std.proofs.lemmas.List.Elements.{All-nil, All-cons, All-append}
 use Rattle.std.proofs.lemmas.Slice.{between_is}
 use Rattle.std.specs.Ordering.{is_gt, is_le, ordering_then}
@@ -131,3 +131,16 @@ none_first ps t h =
     by_cases (is_gt (sequence_cmp (take (first_count ps) ps) t))
     (λ k. let e : is_gt (sequence_cmp ps t) ≡ true = front_greater (first_count ps) ps t k in let f : is_gt (sequence_cmp ps t) ≡ false = le_not_gt (sequence_cmp ps t) h in cc)
     (λ k. rw k refl)
+
+-- three reversals
+pub turned_round : (ps : Pairs) (n : ℕ) → n ≤ length ps
+    → reverse (take n (reverse (take n ps) ++ drop n ps) ++ reverse (drop n (reverse (take n ps) ++ drop n ps))) ≡ drop n ps ++ take n ps
+turned_round ps n h =
+    let a : Pairs = reverse (take n ps) in
+    let b : Pairs = drop n ps in
+    let long : length a ≡ n = omega (arith, length-reverse (take n ps), length-take-le n ps h) in
+    let front : take n (a ++ b) ≡ a = ap (λ (i : ℕ). take i (a ++ b)) (sym long) ∙ take-append_seam a b in
+    let back : drop n (a ++ b) ≡ b = ap (λ (i : ℕ). drop i (a ++ b)) (sym long) ∙ drop-append_seam a b in
+    ap₂ (λ (x y : Pairs). reverse (x ++ reverse y)) front back
+    ∙ reverse-append a (reverse b)
+    ∙ ap₂ (λ (x y : Pairs). x ++ y) (reverse-reverse b) (reverse-reverse (take n ps))

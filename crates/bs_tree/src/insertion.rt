@@ -1,6 +1,6 @@
 //! Level sequences put in canonical order, in place: the tree of each node, from the last node to the first, goes behind the
 //! greater ones of the trees that follow it below the same parent.
-ghost use Rattle.std.specs.Prelude.{◌≡◌, ◌+◌, ◌<◌, ◌≤◌, length, take, drop};
+ghost use Rattle.std.specs.Prelude.{◌≡◌, ◌+◌, ◌<◌, ◌≤◌, ◌++◌, length, take, drop};
 ghost use Rattle.bs_tree.specs.Insertion.{greater_first, greater_count, first_inserted, inserted};
 
 use crate::build::first_count;
@@ -50,6 +50,19 @@ fn passed_count(pairs: &[(u8, u8)], count: usize) -> usize
     greater_count(first, later)
 }
 
+/// Puts the first `count` pairs behind the others, by reversals, which need no room.
+fn turn(pairs: &mut [(u8, u8)], count: usize)
+    requires { count ≤ length pairs.old }
+    ensures { pairs.new ≡ drop count pairs.old ++ take count pairs.old }
+{
+    if count == pairs.len() {
+        return;
+    }
+    pairs[..count].reverse();
+    pairs[count..].reverse();
+    pairs.reverse();
+}
+
 /// Puts the first tree behind the greater ones of those that follow it.
 fn insert_first(pairs: &mut [(u8, u8)])
     requires { 0 < length pairs.old }
@@ -57,7 +70,7 @@ fn insert_first(pairs: &mut [(u8, u8)])
 {
     let count = first_count(pairs);
     let passed = passed_count(pairs, count);
-    pairs[..count + passed].rotate_left(count);
+    turn(&mut pairs[..count + passed], count);
 }
 
 /// Puts the tree of each node in, from the last node to the first.

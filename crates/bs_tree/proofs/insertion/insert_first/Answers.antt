@@ -7,6 +7,6 @@ returns c =
     let ps = c.args.pairs.now in
     let n = c.first_count-count.result in
     let m = c.passed_count-passed.result in
-    ap (λ (xs : List (ℕ × ℕ)). xs ++ drop (n + m) ps) c.rotate_left.ensures.after
+    ap (λ (xs : List (ℕ × ℕ)). xs ++ drop (n + m) ps) c.turn.ensures
     ∙ turned ps n m
     ∙ moved_is ps n m c.first_count-count.ensures.value c.passed_count-passed.ensures.value
