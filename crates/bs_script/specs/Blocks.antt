@@ -6,15 +6,15 @@
 --   has_name s name     == a tableau has this name
 --   with_table s name t == the script with one more tableau
 --   with_session s c    == the script with one more session, of these commands; the tableaux so far stand above it
---   IsSound s           == each tableau has a name, no more tableaux stand above a session than there are, and no session has
---                          more than MAX_COMMANDS commands
+--   IsSound s           == each tableau has a name, there are at most MAX_TABLES, no more of them stand above a session than there
+--                          are, and no session has more than MAX_COMMANDS commands
 --
 -- Source: this project.
 use Rattle.std.specs.Prelude.{ℕ, ◌≡◌, ◌≤◌, Bool, List, [], ◌∷◌, ◌++◌, length, All}
 use Rattle.std.specs.Str.{bytes_eq}
 use Rattle.std.specs.List.{list_any}
 use Rattle.bs_tableau.specs.Table.{Table}
-use Rattle.bs_script.specs.declared.TheConstants.{MAX_COMMANDS}
+use Rattle.bs_script.specs.declared.TheConstants.{MAX_TABLES, MAX_COMMANDS}
 
 pub record SessionLines : Type 0 where
   pub above : ℕ
@@ -40,5 +40,6 @@ with_session s commands =
 
 pub record IsSound (s : ScriptLines) : Type 0 where
   pub named : length s.table_names ≡ length s.tables
+  pub few_tables : length s.tables ≤ MAX_TABLES
   pub above : All (λ session. session.above ≤ length s.tables) s.sessions
   pub few : All (λ session. length session.commands ≤ MAX_COMMANDS) s.sessions

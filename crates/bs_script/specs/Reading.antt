@@ -3,16 +3,17 @@
 --   Fails fault said     == the fault is what the grammar says, or memory ran out
 --   place_at at_start    == at the start, or outside
 --   line_at s at_start ws == the outcome of a line with these words there
---   IsOpening s o        == a tableau that begins has a new name, and numbers of stages and colours in their range
+--   IsOpening s o        == a tableau that begins has a new name, and numbers of stages and colours in their range; there is room for it
 --   after_first s o      == the outcome of a line with this opening
 --   after_row s name t o == the outcome of a line in a tableau, of which t has been read now
 --   after_command s c line o == the outcome of a line in a session with these commands
 --
 -- Source: this project.
-use Rattle.std.specs.Prelude.{◌≡◌, ◌<◌, ◌≤◌, ℕ, Bool, true, false, List, [], ◌∷◌, ◌++◌, Result, Ok, Err, ◌&&◌, if◌then◌else◌, codes}
+use Rattle.std.specs.Prelude.{◌≡◌, ◌<◌, ◌≤◌, ℕ, Bool, true, false, List, [], ◌∷◌, ◌++◌, length, Result, Ok, Err, ◌&&◌, if◌then◌else◌, codes}
 use Rattle.std.specs.Str.{bytes_eq}
 use Rattle.bs_tableau.specs.Table.{Table}
 use Rattle.bs_tableau.specs.declared.TheConstants.{MAX_STAGES, MAX_COLOURS}
+use Rattle.bs_script.specs.declared.TheConstants.{MAX_TABLES}
 use Rattle.bs_script.specs.Blocks.{ScriptLines, has_name, with_table, with_session}
 use Rattle.bs_script.specs.Grammar.{Place, Outcome, format_line, block_line}
 use Rattle.bs_script.specs.Grammar.Place.{start, outside, in_table, in_session}
@@ -47,7 +48,7 @@ place_in opening.Session = in_session []
 abbrev pub IsOpening : ScriptLines → Opening → Type 0
 IsOpening s opening.Format = Unit {0}
 IsOpening s (opening.Tableau name stages colours) =
-    (has_name s name.now ≡ false) × (0 < stages) × (stages ≤ MAX_STAGES) × (0 < colours) × (colours ≤ MAX_COLOURS)
+    (has_name s name.now ≡ false) × (length s.tables < MAX_TABLES) × (0 < stages) × (stages ≤ MAX_STAGES) × (0 < colours) × (colours ≤ MAX_COLOURS)
 IsOpening s opening.Session = Unit {0}
 
 abbrev pub after_first : ScriptLines → Result Opening Reason → Outcome

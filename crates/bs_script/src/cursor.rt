@@ -5,13 +5,14 @@ ghost use Rattle.std.specs.Prelude.{IfNone, ◌≡◌, ℕ, ◌^◌, ◌+◌, �
 ghost use Rattle.bs_script.specs.Lines.{lines, without_return, start_of, IsFeedAt, IsNext, kept, last};
 
 use crate::words::is_skipped;
+use memchr::memchr;
 use std::marker::Model;
 
 /// The place of the first line feed.
 fn feed_at(bytes: &[u8]) -> Option<usize>
     ensures { MatchOption result (EachIndex bytes.now (λ k. slice_index bytes.now k ≢ 10)) (λ at. IsFeedAt bytes.now at) }
 {
-    bytes.iter().position(|byte| *byte == b'\n')
+    memchr(b'\n', bytes)
 }
 
 /// The first line, and the bytes after it and its line feed.

@@ -6,6 +6,7 @@
 ghost use Rattle.std.specs.Prelude.{◌≡◌, ◌≢◌, ℕ, ◌<◌, ◌≤◌, ◌↔◌, false, List, [], length, Ok, MatchResult, IfOk, OnOk};
 ghost use Rattle.bs_tableau.specs.Table.{Table, row_count};
 ghost use Rattle.bs_tableau.specs.declared.TheConstants.{MAX_STAGES, MAX_COLOURS};
+ghost use Rattle.bs_script.specs.declared.TheConstants.{MAX_TABLES};
 ghost use Rattle.bs_script.specs.Blocks.{ScriptLines, has_name, with_table, with_session};
 ghost use Rattle.bs_script.specs.Grammar.{at_line, moved, reason_of, rest_of, script};
 ghost use Rattle.bs_script.specs.Grammar.Place.{outside, in_table, in_session};
@@ -82,6 +83,7 @@ fn read_tableau(
     lines: &mut Lines<'_>,
 ) -> Result<(), ScriptFault>
     requires fresh { has_name script.old name.now ≡ false }
+    requires few { length script.old.tables < MAX_TABLES }
     ensures rest { MatchResult result
         (λ _. rest_of script.old (in_table name.now builder) lines.old ≡ rest_of script.new outside lines.new)
         (λ e. Fails e (rest_of script.old (in_table name.now builder) lines.old)) }

@@ -4,7 +4,7 @@
 ghost use Rattle.std.specs.Prelude.{◌≡◌, ◌<◌, ◌≤◌, ◌==◌, [], ◌∷◌, ◌++◌, false, length, Some, OnOk, OnErr, slice_get};
 ghost use Rattle.bs_script.specs.Blocks.{ScriptLines, SessionLines, IsSound, empty_script, has_name, with_table, with_session};
 ghost use Rattle.bs_script.specs.Places.{place_of};
-ghost use Rattle.bs_script.specs.declared.TheConstants.{MAX_COMMANDS};
+ghost use Rattle.bs_script.specs.declared.TheConstants.{MAX_TABLES, MAX_COMMANDS};
 
 use crate::texts::Texts;
 use bs_tableau::Tableau;
@@ -137,6 +137,7 @@ impl Script {
     /// Adds a tableau of a new name. Where memory is wanted, nothing has changed.
     pub(crate) fn add_table(&mut self, name: &[u8], table: Tableau) -> Result<(), AllocError>
         requires fresh { has_name self.old name.now ≡ false }
+        requires few { length self.old.tables < MAX_TABLES }
         ensures ok { OnOk result (self.new ≡ with_table self.old name.now table) }
         ensures err { OnErr result (self.new ≡ self.old) }
     {

@@ -38,11 +38,16 @@ pub fn is_skipped(line: &[u8]) -> bool
     }
 }
 
-/// Has the line a byte that is not allowed?
+/// Has the line a byte that is not allowed? The loop has no way out, so that it goes over many bytes at once.
+#[tactic(auto, using(std::proofs::lemmas::List::Folds::list_any_more))]
 pub fn has_bad_byte(line: &[u8]) -> bool
     ensures { result ≡ has_bad_byte line.now }
 {
-    line.iter().any(|byte| is_bad(*byte))
+    let mut bad = false;
+    'bytes: for byte in line {
+        bad = bad | is_bad(*byte);
+    }
+    bad
 }
 
 /// Is `end` the line's only word?
