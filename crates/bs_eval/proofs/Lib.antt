@@ -7,3 +7,6 @@ pub mod TermValues
 pub mod Spreads
 pub mod Answered
 pub mod Methods
+pub mod Recursion
+pub mod Falls
+pub mod Fits

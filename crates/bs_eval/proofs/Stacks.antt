@@ -1,5 +1,6 @@
 -- A frame put on the others, and taken off.
-use Rattle.std.proofs.Common.{◌≡◌, ℕ, ◌-◌, List, take, [], ◌∷◌, ◌++◌, length, refl, sym, ◌∙◌, ap, subst, arith}
+use Rattle.std.proofs.Common.{◌≡◌, ℕ, zero, suc, ◌+◌, List, take, [], ◌∷◌, ◌++◌, length, slice_index_or, slice_set, refl, sym, ◌∙◌, ap, subst, arith}
+use Rattle.std.proofs.lemmas.List.{take_all, take_more}
 use Rattle.bs_tableau.specs.Table.{Table}
 use Rattle.bs_series.specs.Series.{Series}
 use Rattle.bs_eval.specs.Frames.{IsOn, Awaits}
@@ -27,11 +28,17 @@ stands_pop tables es of (g ∷ gs) f p h =
 pub popped : (tables : List Table) (es : List Series) (of : Pair) (items fs : List Frame) (f : Frame) (p : Pair) → items ≡ fs ++ f ∷ [] → Stands tables es of items p → Popped tables es of fs f p
 popped tables es of items fs f p e h = stands_pop tables es of fs f p (subst (λ xs. Stands tables es of xs p) e h)
 
+-- ---- the last frame, which changes in its place
+pub last_is : (items : List Frame) (n : ℕ) (f : Frame) → length items ≡ suc n → f ≡ slice_index_or items n f → items ≡ take n items ++ f ∷ []
+last_is items n f l e =
+    sym (take_all (n + 1) items (omega (arith, l))) ∙ take_more items n f (omega (arith, l)) ∙ ap (λ (g : Frame). take n items ++ g ∷ []) (sym e)
+
+pub last_changed : (items : List Frame) (n : ℕ) (g : Frame) → length items ≡ suc n → slice_set items n g ≡ take n items ++ g ∷ []
+last_changed [] n g l = absurd (omega (arith, l))
+last_changed (x ∷ []) zero g l = refl
+last_changed (x ∷ (y ∷ ys)) zero g l = absurd (omega (arith, l))
+last_changed (x ∷ xs) (suc n) g l = ap (λ (fs : List Frame). x ∷ fs) (last_changed xs n g (omega (arith, l)))
+
 pub alone : (tables : List Table) (es : List Series) (of : Pair) (fs : List Frame) (p : Pair) → length fs ≡ 0 → Stands tables es of fs p → of ≡ p
 alone tables es of [] p e h = h
 alone tables es of (f ∷ fs) p e h = absurd (omega arith)
-
-pub emptied : (items rest : List Frame) (n : ℕ) → n ≡ 0 → rest ≡ take (n - 1) items → items ≡ rest ++ [] → length items ≡ 0
-emptied items rest n z r i =
-    let e : rest ≡ [] = r ∙ ap (λ (k : ℕ). take (k - 1) items) z in
-    ap length (i ∙ ap (λ (xs : List Frame). xs ++ []) e)

@@ -1,11 +1,12 @@
 -- The values of a term's first factors.
-use Rattle.std.proofs.Common.{◌≡◌, ℕ, zero, suc, IsSome, ◌+◌, ◌<◌, List, [], ◌∷◌, ◌++◌, take, length, Some, slice_get, refl, sym, ◌∙◌, ap, ap₂, subst, arith, length-append, true, false}
+use Rattle.std.proofs.Common.{◌≡◌, ℕ, zero, suc, IsSome, ◌+◌, ◌<◌, List, [], ◌∷◌, ◌++◌, take, length, Some, slice_get, slice_index_or, refl, sym, ◌∙◌, ap, ap₂, subst, arith, length-append, true, false}
 use Rattle.std.proofs.lemmas.List.{map-append, take_all}
 use Rattle.bs_frac.specs.Written.{checked}
 use Rattle.bs_frac.specs.declared.coef.Coef.{Coef}
 use Rattle.bs_tableau.specs.Table.{Table}
 use Rattle.bs_series.specs.Series.{Series}
-use Rattle.bs_series.specs.SeriesCode.{factor_at, written_at}
+use Rattle.std.proofs.lemmas.Option.{get_or_from_slice_get, slice_get_within}
+use Rattle.bs_series.specs.SeriesCode.{Code, factor_at, written_at}
 use Rattle.bs_eval.specs.Steps.{factor_in, factors_in, values, applied, carried, step_in}
 use Rattle.bs_eval.specs.Left.{plan_left}
 use Rattle.bs_eval.specs.Frames.{Knows, IsOn, GoesOn, value_at_pair, awaited_at}
@@ -26,6 +27,20 @@ knows_next tables es fs vs ws f v at is new h =
     ∙ ap₂ (λ (xs : List Coef) (x : Coef). xs ++ x ∷ []) h is
     ∙ sym e
     ∙ ap (λ (k : ℕ). values look (factors_in es (take k fs))) (sym n)
+
+-- the value of a factor that stands in the term before
+value_at_place : (look : Series → Code → Coef) (es : List Series) (fs : List CodeFactor) (n j : ℕ) (f : CodeFactor) (d : Coef) → slice_get fs j ≡ Some f → j < n
+    → slice_index_or (values look (factors_in es (take n fs))) j d ≡ factor_at checked look (factor_in es f)
+value_at_place look es [] n j f d e l = absurd (let w : j < 0 = slice_get_within [] j f e in omega (arith, w))
+value_at_place look es (x ∷ fs) zero j f d e l = absurd (omega (arith, l))
+value_at_place look es (x ∷ fs) (suc n) zero f d e l = let w : x ≡ f = get_or_from_slice_get (x ∷ fs) 0 f x e in ap (λ y. factor_at checked look (factor_in es y)) w
+value_at_place look es (x ∷ fs) (suc n) (suc j) f d e l = value_at_place look es fs n j f d e (omega (arith, l))
+
+pub knows_again : (tables : List Table) (es : List Series) (fs : List CodeFactor) (vs : List Coef) (k j : ℕ) (f : CodeFactor) (v : Coef) → length vs ≡ k → j < k → slice_get fs j ≡ slice_get fs k → slice_get fs k ≡ Some f
+    → v ≡ slice_index_or vs j v → Knows tables es fs vs → v ≡ factor_at checked (written_at tables) (factor_in es f)
+knows_again tables es fs vs k j f v l b same at is h =
+    is ∙ ap (λ (ws : List Coef). slice_index_or ws j v) h
+    ∙ value_at_place (written_at tables) es fs (length vs) j f v (same ∙ at) (omega (arith, l, b))
 
 pub knows_all : (tables : List Table) (es : List Series) (fs : List CodeFactor) (vs : List Coef) → length vs ≡ length fs → Knows tables es fs vs → vs ≡ values (written_at tables) (factors_in es fs)
 knows_all tables es fs vs l h = h ∙ ap (λ (xs : List CodeFactor). values (written_at tables) (factors_in es xs)) (ap (λ (k : ℕ). take k fs) l ∙ take_all (length fs) fs (omega arith))

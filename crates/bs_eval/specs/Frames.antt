@@ -14,12 +14,13 @@
 --
 -- Source: this project.
 use Rattle.std.specs.Prelude.{◌≡◌, ℕ, ◌<◌, List, take, length, Option, Some, None, slice_get}
+use Rattle.std.specs.List.{AllByRecursion}
 use Rattle.bs_frac.specs.declared.coef.Coef.{Coef}
 use Rattle.bs_tableau.specs.Table.{Table}
-use Rattle.bs_series.specs.Series.{Series, exact, identity, average}
-use Rattle.bs_series.specs.SeriesCode.{written_at}
+use Rattle.bs_series.specs.Series.{Series, exact, identity, average, colours_of}
+use Rattle.bs_series.specs.SeriesCode.{IsColouredCode, HasItsColours, written_at}
 use Rattle.bs_series.specs.Expressions.{series_at}
-use Rattle.bs_eval.specs.Steps.{step_in, factors_in, values, with_step, carried}
+use Rattle.bs_eval.specs.Steps.{Step, factor_in, step_in, factors_in, values, with_step, carried}
 use Rattle.bs_eval.specs.Left.{plan_left, TermIn, PlanIn}
 use Rattle.bs_eval.specs.declared.factor.Factor.{Factor as CodeFactor}
 use Rattle.bs_eval.specs.declared.factor.Factor.TheVariants as factor
@@ -36,6 +37,7 @@ IsLooked _ = Unit {0}
 pub record IsPair (es : List Series) (p : Pair) : Type 0 where
   pub in_book : p.series < length es
   pub looked : IsLooked (series_at es p.series)
+  pub coloured : IsColouredCode (colours_of (series_at es p.series)) p.code
 
 abbrev pub pair_in : CodeFactor → Option Pair
 pair_in (factor.Fixed v) = None
@@ -57,10 +59,18 @@ awaited f = awaited_at f.term.factors.items (length f.known)
 abbrev pub value_at_pair : List Table → List Series → Pair → Coef
 value_at_pair tables es p = written_at tables (series_at es p.series) p.code
 
-pub record FrameIn (n : ℕ) (f : Frame) : Type 0 where
-  pub pair : f.pair.series < n
-  pub term : TermIn n f.term
-  pub plan : PlanIn n f.plan
+abbrev pub FactorFits : List Series → CodeFactor → Type 0
+FactorFits es f = HasItsColours (factor_in es f)
+
+abbrev pub StepFits : Step → Type 0
+StepFits s = AllByRecursion HasItsColours s.factors
+
+pub record FrameIn (es : List Series) (f : Frame) : Type 0 where
+  pub pair : f.pair.series < length es
+  pub term : TermIn (length es) f.term
+  pub plan : PlanIn (length es) f.plan
+  pub term_fits : AllByRecursion (FactorFits es) f.term.factors.items
+  pub plan_fits : AllByRecursion StepFits (plan_left es f.plan)
 
 abbrev pub Knows : List Table → List Series → List CodeFactor → List Coef → Type 0
 Knows tables es fs vs = vs ≡ values (written_at tables) (factors_in es (take (length vs) fs))
@@ -78,6 +88,6 @@ HasCome tables es None f = f.sum ≡ value_at_pair tables es f.pair
 HasCome tables es (Some p) f = IsOn tables es f
 
 pub record Awaits (es : List Series) (f : Frame) (p : Pair) : Type 0 where
-  pub in_book : FrameIn (length es) f
+  pub in_book : FrameIn es f
   pub is : awaited f ≡ Some p
   pub pair : IsPair es p

@@ -4,3 +4,4 @@ pub mod ButLast
 pub mod Left
 pub mod Frames
 pub mod Machine
+pub mod Turns

@@ -8,15 +8,16 @@
 --   Answers tables es asked ask e == the answer is right, and what is kept is sound
 --   AreHeld es asked frames == frames stand one on the other, over some tableaux
 --   IsRight tables es asked ask  == the answer carries written values, and looks up what is no exact flow, identity or average
+--   IsDone ask           == the answer is the value that was asked for
 --
 -- Source: this project.
 use Rattle.std.specs.Prelude.{◌≡◌, ◌<◌, List, [], ◌∷◌, length, Option, Some, None, Result, IfOk}
 use Rattle.std.specs.declared.alloc.AllocError.{AllocError}
 use Rattle.bs_frac.specs.declared.coef.Coef.{Coef}
 use Rattle.bs_tableau.specs.Table.{Table}
-use Rattle.bs_series.specs.Series.{Series}
+use Rattle.bs_series.specs.Series.{Series, colours_of}
 use Rattle.bs_series.specs.Expressions.{series_at}
-use Rattle.bs_series.specs.SeriesCode.{written_at}
+use Rattle.bs_series.specs.SeriesCode.{IsColouredCode, written_at}
 use Rattle.bs_eval.specs.Frames.{IsLooked, IsPair, value_at_pair, IsOn, Awaits}
 use Rattle.bs_eval.specs.declared.frame.Pair.{Pair}
 use Rattle.bs_eval.specs.declared.frame.Frame.{Frame}
@@ -52,7 +53,7 @@ Stands tables es of [] p = of ≡ p
 Stands tables es of (f ∷ fs) p = (q : Pair) × IsWaiting tables es of f q × Stands tables es q fs p
 
 abbrev pub IsSoundAt : List Table → List Series → Pair → List Frame → State → Type 0
-IsSoundAt tables es of fs Begun = (of.series < length es) × (fs ≡ [])
+IsSoundAt tables es of fs Begun = (of.series < length es) × IsColouredCode (colours_of (series_at es of.series)) of.code × (fs ≡ [])
 IsSoundAt tables es of fs (Looking p) = IsPair es p × Stands tables es of fs p
 IsSoundAt tables es of fs (Kept p v) = (v ≡ value_at_pair tables es p) × Stands tables es of fs p
 IsSoundAt tables es of fs Ended = Unit {0}
@@ -71,8 +72,13 @@ IsTruthful tables es e found = IsTruthfulOf tables es found (awaiting e)
 
 abbrev pub IsRight : List Table → List Series → Pair → Ask → Type 0
 IsRight tables es asked (Look id code) = (id < length es) × IsLooked (series_at es id)
-IsRight tables es asked (Keep id code v) = v ≡ written_at tables (series_at es id) code
+IsRight tables es asked (Keep id code v) = (id < length es) × (v ≡ written_at tables (series_at es id) code)
 IsRight tables es asked (Done v) = v ≡ value_at_pair tables es asked
+
+abbrev pub IsDone : Ask → Type 0
+IsDone (Look id code) = ⊥
+IsDone (Keep id code v) = ⊥
+IsDone (Done v) = Unit {0}
 
 -- after a Look the machine awaits that pair's value
 abbrev pub AwaitsAsked : Ask → Eval → Type 0

@@ -1,16 +1,18 @@
 //! The machine that works out the value of a series at a tree.
 
-ghost use Rattle.std.specs.Prelude.{◌≡◌, ◌<◌, List, length, IfOk, OnErr, IsErr, IfSome, OnOk, []};
+ghost use Rattle.std.specs.Prelude.{◌≡◌, ◌<◌, ◌≤◌, ◌+◌, ◌⊎◌, List, length, IfOk, OnErr, IsErr, IfSome, MatchOption, OnOk, Ok, [], ◌∷◌, ◌++◌, ℕ, suc};
 ghost use Rattle.bs_frac.specs.Written.{checked};
 ghost use Rattle.bs_tree.specs.Code.{tree_of};
 ghost use Rattle.bs_tableau.specs.Table.{Table};
 ghost use Rattle.bs_tableau.specs.WrittenWeight.{written_weight};
 ghost use Rattle.bs_eval.specs.declared.frame.Pair.{Pair};
-ghost use Rattle.bs_series.specs.Series.{Series};
+ghost use Rattle.bs_series.specs.Series.{Series, colours_of};
 ghost use Rattle.bs_series.specs.Accepted.{Suits};
+ghost use Rattle.bs_series.specs.SeriesCode.{IsColouredCode};
 ghost use Rattle.bs_series.specs.Expressions.{series_at};
 ghost use Rattle.bs_eval.specs.Frames.{IsPair, value_at_pair, HasCome, Awaits};
-ghost use Rattle.bs_eval.specs.Machine.{asked, HasEnded, Stands, IsSound, IsTruthful, IsRight, AwaitsAsked, Answers, AreHeld};
+ghost use Rattle.bs_eval.specs.Machine.{asked, HasEnded, Stands, IsSound, IsTruthful, IsRight, IsDone, AwaitsAsked, Answers, AreHeld};
+ghost use Rattle.bs_eval.specs.Turns.{turns, left, rest, rests, pair_calls};
 ghost use Rattle.bs_eval.specs.declared.eval.State.TheVariants as state;
 ghost use Rattle.bs_eval.specs.declared.eval.Ask.TheVariants as ask;
 
@@ -67,10 +69,11 @@ pub struct Eval {
 }
 
 impl Eval {
-    /// Before the first question. Takes no memory.
+    /// Before the first question. Takes no memory. The tree has colours of the series alone.
     pub fn start(alloc: Global, series: SeriesId, code: Code) -> Eval
         ensures asked { asked result ≡ record { series = series; code = code } }
-        ensures sound { (tables : List Table) (es : List Series) → series < length es → IsSound tables es result }
+        ensures sound { (tables : List Table) (es : List Series) → series < length es → IsColouredCode (colours_of (series_at es series)) code → IsSound tables es result }
+        ensures left { (es : List Series) → left es result ≡ turns (series_at es series) code }
     {
         Eval {
             asked: Pair { series, code },
@@ -79,7 +82,7 @@ impl Eval {
         }
     }
 
-    /// The next question.
+    /// The next question. Memory is wanted where a value is begun that awaits others, one frame for each.
     pub fn next<L: Ledger>(
         &mut self,
         book: &Book,
@@ -95,15 +98,16 @@ impl Eval {
         ensures sound { IsSound tables.now book.now self.new }
         ensures asked { asked self.new ≡ asked self.old }
         ensures failed { OnErr result (HasEnded self.new) }
+        ensures nearer { IfOk result (λ ask. IsDone ask ⊎ (left book.now self.new < left book.now self.old)) }
         ensures stays { HasEnded self.old → IsErr result }
     {
         match self.state {
             State::Begun => Ok(self.begin(book)),
             State::Looking { pair } => match found {
-                Some(coef) => self.hand(book, coef, steps),
+                Some(coef) => Ok(self.hand(book, coef, steps)),
                 None => self.open(book, tables, &pair, steps),
             },
-            State::Kept { coef, .. } => self.hand(book, coef, steps),
+            State::Kept { coef, .. } => Ok(self.hand(book, coef, steps)),
             State::Ended => Err(AllocError),
         }
     }
@@ -111,11 +115,13 @@ impl Eval {
     /// The answer at once where it needs no look.
     fn begin(&mut self, book: &Book) -> Ask
         requires known { (asked self.old).series < length book.now }
+        requires coloured { IsColouredCode (colours_of (series_at book.now (asked self.old).series)) (asked self.old).code }
         requires first { self.old.frames.items ≡ [] }
         ensures right { (tables : List Table) → IsRight tables book.now (asked self.old) result }
         ensures awaits { AwaitsAsked result self.new }
         ensures sound { (tables : List Table) → IsSound tables book.now self.new }
         ensures asked { asked self.new ≡ asked self.old }
+        ensures nearer { IsDone result ⊎ (left book.now self.new ≤ pair_calls book.now (asked self.old)) }
     {
         let pair = self.asked;
         match direct_value(book, pair.series, &pair.code) {
@@ -167,12 +173,13 @@ impl Eval {
         requires pair { IsPair book.now pair.now }
         requires stands { Stands tables.now book.now (asked self.old) self.old.frames.items pair.now }
         ensures answers { Answers tables.now book.now (asked self.old) result self.new }
+        ensures nearer { OnOk result (left book.now self.new < rests book.now self.old.frames.items + pair_calls book.now pair.now) }
         ensures asked { asked self.new ≡ asked self.old }
         ensures failed { OnErr result (HasEnded self.new) }
     {
         self.state = State::Ended;
         match method_table(book, pair.series) {
-            Some(table) => self.weigh(&tables[usize::from(table)], pair),
+            Some(table) => Ok(self.weigh(&tables[usize::from(table)], pair)),
             None => {
                 let mut frame = Frame::start(book, pair, steps);
                 let awaited = frame.go_on(book, steps);
@@ -182,23 +189,19 @@ impl Eval {
     }
 
     /// The value of a method is its weight.
-    fn weigh(&mut self, table: &Tableau, pair: &Pair) -> Result<Ask, AllocError>
-        ensures ok { IfOk result (λ answer. answer ≡ ask.Keep pair.now.series pair.now.code (written_weight checked table.now (tree_of pair.now.code))) }
-        ensures kept { OnOk result (self.new ≡ record self.old { state = state.Kept pair.now (written_weight checked table.now (tree_of pair.now.code)) }) }
-        ensures failed { OnErr result (self.new ≡ record self.old { state = state.Ended }) }
+    fn weigh(&mut self, table: &Tableau, pair: &Pair) -> Ask
+        requires { IsColouredCode table.now.colours pair.now.code }
+        ensures ask { result ≡ ask.Keep pair.now.series pair.now.code (written_weight checked table.now (tree_of pair.now.code)) }
+        ensures state { self.new ≡ record self.old { state = state.Kept pair.now (written_weight checked table.now (tree_of pair.now.code)) } }
     {
-        self.state = State::Ended;
-        // The colours of all trees that are asked for are below those of their series.
-        if !pair.code.has_colours_below(table.colours()) {
-            return Err(AllocError);
-        }
         let coef = weight(table, &pair.code);
-        Ok(self.keep(pair, &coef))
+        self.keep(pair, &coef)
     }
 
     /// Puts a frame that awaits a value above the others, or keeps the value of one that is at its end.
     fn place(&mut self, frame: Frame, awaited: Option<Pair>) -> Result<Ask, AllocError>
-        ensures answers { (tables : List Table) (es : List Series) → Stands tables es (asked self.old) self.old.frames.items frame.pair → IfSome awaited (λ pair. Awaits es frame pair) → HasCome tables es awaited frame → Answers tables es (asked self.old) result self.new }
+        ensures answers { (tables : List Table) (es : List Series) → Stands tables es (asked self.old) self.old.frames.items frame.pair → frame.pair.series < length es → IfSome awaited (λ pair. Awaits es frame pair) → HasCome tables es awaited frame → Answers tables es (asked self.old) result self.new }
+        ensures nearer { (es : List Series) (n : ℕ) → MatchOption awaited (0 < n) (λ pair. rest es frame + pair_calls es pair ≤ n) → OnOk result (left es self.new ≤ rests es self.old.frames.items + n) }
         ensures asked { asked self.new ≡ asked self.old }
         ensures failed { OnErr result (HasEnded self.new) }
     {
@@ -212,25 +215,36 @@ impl Eval {
         }
     }
 
-    /// Hands a value to the last frame, which awaits it.
-    fn hand<L: Ledger>(
-        &mut self,
-        book: &Book,
-        coef: Coef,
-        steps: &mut Steps<L>,
-    ) -> Result<Ask, AllocError>
+    /// Hands a value to the last frame, which awaits it and stays in its place.
+    fn hand<L: Ledger>(&mut self, book: &Book, coef: Coef, steps: &mut Steps<L>) -> Ask
         requires held { AreHeld book.now (asked self.old) self.old.frames.items }
-        ensures answers { (tables : List Table) (pair : Pair) → Stands tables book.now (asked self.old) self.old.frames.items pair → coef ≡ value_at_pair tables book.now pair → Answers tables book.now (asked self.old) result self.new }
+        ensures answers { (tables : List Table) (pair : Pair) → Stands tables book.now (asked self.old) self.old.frames.items pair → coef ≡ value_at_pair tables book.now pair → Answers tables book.now (asked self.old) (Ok result) self.new }
+        ensures nearer { IsDone result ⊎ (left book.now self.new ≤ rests book.now self.old.frames.items) }
         ensures asked { asked self.new ≡ asked self.old }
-        ensures failed { OnErr result (HasEnded self.new) }
     {
         self.state = State::Ended;
-        match self.frames.pop() {
-            None => Ok(Ask::Done { coef }),
-            Some(mut frame) => {
-                let awaited = frame.take(book, coef, steps);
-                self.place(frame, awaited)
-            }
+        let count = self.frames.len();
+        if count == 0 {
+            return Ask::Done { coef };
         }
+        let last = count - 1;
+        let awaited = self.frames[last].take(book, coef, steps);
+        match awaited {
+            Some(pair) => self.look(&pair),
+            None => self.close(last),
+        }
+    }
+
+    /// Takes the last frame off, and keeps its value.
+    fn close(&mut self, last: usize) -> Ask
+        requires last { length self.old.frames.items ≡ suc last }
+        ensures answers { (tables : List Table) (es : List Series) (fs : List Frame) (f : Frame) → self.old.frames.items ≡ fs ++ f ∷ [] → Stands tables es (asked self.old) fs f.pair → f.pair.series < length es → f.sum ≡ value_at_pair tables es f.pair → Answers tables es (asked self.old) (Ok result) self.new }
+        ensures nearer { (es : List Series) (fs : List Frame) (f : Frame) → self.old.frames.items ≡ fs ++ f ∷ [] → left es self.new ≡ suc (rests es fs) }
+        ensures asked { asked self.new ≡ asked self.old }
+    {
+        let pair = self.frames[last].pair;
+        let sum = self.frames[last].sum;
+        self.frames.truncate(last);
+        self.keep(&pair, &sum)
     }
 }

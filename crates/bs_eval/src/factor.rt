@@ -65,17 +65,11 @@ pub(crate) fn single(operation: Operation, factor: Factor) -> Term
     Term { operation, factors }
 }
 
-/// A term of a first factor, and of a series at each tree of a list.
-pub(crate) fn product(
-    operation: Operation,
-    first: Factor,
-    series: SeriesId,
-    codes: &CodeList,
-) -> Term
-    ensures operation { result.operation ≡ operation }
-    ensures factors { result.factors.items ≡ first ∷ map (λ code. factor.At series code) codes.now }
+/// Puts a first factor, and a series at each tree of a list, in place of the factors.
+pub(crate) fn put_product(factors: &mut Factors, first: Factor, series: SeriesId, codes: &CodeList)
+    ensures { factors.new.items ≡ first ∷ map (λ code. factor.At series code) codes.now }
 {
-    let mut factors = ArrayVec::new();
+    factors.clear();
     factors.push(first);
     'codes: for place in 0..codes.len() {
         factors.push(Factor::At {
@@ -83,20 +77,18 @@ pub(crate) fn product(
             code: codes.get(place),
         });
     }
-    Term { operation, factors }
 }
 
 /// The same with the sign of each tree's order.
-pub(crate) fn turned_product(
-    operation: Operation,
+pub(crate) fn put_turned_product(
+    factors: &mut Factors,
     first: Factor,
     series: SeriesId,
     codes: &CodeList,
-) -> Term
-    ensures operation { result.operation ≡ operation }
-    ensures factors { result.factors.items ≡ first ∷ map (λ code. factor.Turned series code) codes.now }
+)
+    ensures { factors.new.items ≡ first ∷ map (λ code. factor.Turned series code) codes.now }
 {
-    let mut factors = ArrayVec::new();
+    factors.clear();
     factors.push(first);
     'codes: for place in 0..codes.len() {
         factors.push(Factor::Turned {
@@ -104,7 +96,6 @@ pub(crate) fn turned_product(
             code: codes.get(place),
         });
     }
-    Term { operation, factors }
 }
 
 /// A term of a first factor that is added, and of a fraction as often as is said.

@@ -1,19 +1,20 @@
 //! A value in the making.
 
-ghost use Rattle.std.specs.Prelude.{◌≡◌, ◌<◌, ◌≤◌, List, length, MatchOption, IfSome, IsSome, IsSomeAnd, Some, [], ℕ};
+ghost use Rattle.std.specs.Prelude.{◌≡◌, ◌<◌, ◌≤◌, ◌+◌, List, length, MatchOption, MatchBool, IfSome, IfNone, IsSome, IsTrue, slice_get, ◌∷◌, IsSomeAnd, Some, [], ℕ, suc};
 ghost use Rattle.std.specs.List.{AllByRecursion};
 ghost use Rattle.bs_frac.specs.Written.{checked, product_all};
 ghost use Rattle.bs_tableau.specs.Table.{Table};
 ghost use Rattle.bs_series.specs.Series.{Series};
-ghost use Rattle.bs_series.specs.Accepted.{Suits};
+ghost use Rattle.bs_series.specs.Accepted.{ColoursFit, Suits};
 ghost use Rattle.bs_series.specs.Plan.{HasPlan};
 ghost use Rattle.bs_series.specs.SeriesCode.{factor_at, written_at};
 ghost use Rattle.bs_series.specs.Value.{signed_by};
 ghost use Rattle.bs_series.specs.Expressions.{series_at};
-ghost use Rattle.bs_eval.specs.Steps.{factor_in, applied, over};
-ghost use Rattle.bs_eval.specs.Left.{FactorIn};
+ghost use Rattle.bs_eval.specs.Steps.{factor_in, step_in, applied, over};
+ghost use Rattle.bs_eval.specs.Left.{FactorIn, TermIn, PlanIn, plan_left};
+ghost use Rattle.bs_eval.specs.Turns.{pair_calls, steps_calls, ahead, rest};
 ghost use Rattle.bs_eval.specs.declared.factor.TheConstants.{MAX_FACTORS};
-ghost use Rattle.bs_eval.specs.Frames.{IsPair, pair_in, awaited_at, awaited, value_at_pair, FrameIn, Knows, GoesOn, IsOn, HasCome, Awaits};
+ghost use Rattle.bs_eval.specs.Frames.{IsPair, pair_in, awaited_at, awaited, value_at_pair, FactorFits, FrameIn, Knows, GoesOn, IsOn, HasCome, Awaits};
 
 use crate::direct::{direct_value, exact_value};
 use crate::factor::{Factor, Operation, Term};
@@ -80,7 +81,8 @@ fn handed(value: Coef, factor: &Factor) -> Coef
 
 /// The value of a factor that needs no look.
 fn settled(book: &Book, factor: &Factor) -> Option<Coef>
-    requires { FactorIn (length book.now) factor.now }
+    requires in_book { FactorIn (length book.now) factor.now }
+    requires fits { FactorFits book.now factor.now }
     ensures { MatchOption result (IsSomeAnd (pair_in factor.now) (λ pair. IsPair book.now pair)) (λ value. (tables : List Table) → value ≡ factor_at checked (written_at tables) (factor_in book.now factor.now)) }
 {
     match factor {
@@ -105,7 +107,8 @@ fn product(factors: &[Coef]) -> Coef
     partial
 }
 
-/// The sum with a term. The divisor of a series that a book accepted is not 0.
+/// The sum with a term. The divisor is 0 in no plan of a book that suits its tableaux: a modifying series is accepted only
+/// where its operand is not written as 0 at the leaf. It is tested here, so that each step has a value.
 fn applied(sum: &Coef, operation: Operation, factors: &[Coef]) -> Coef
     ensures { result ≡ applied sum.now operation factors.now }
 {
@@ -130,19 +133,77 @@ fn divided(sum: &Coef, by: &Coef) -> Coef
     }
 }
 
-/// Puts in the values of the next factors that need no look, up to the first that is awaited.
+/// Whether two factors are the same one, with a series that is looked up.
+fn is_same_factor(left: &Factor, right: &Factor) -> bool
+    ensures { IsTrue result → left.now ≡ right.now }
+{
+    match left {
+        Factor::Fixed { .. } | Factor::Flow { .. } => false,
+        Factor::At { series, code } => match right {
+            Factor::At {
+                series: other,
+                code: tree,
+            } => series == other && code == tree,
+            Factor::Fixed { .. } | Factor::Flow { .. } | Factor::Turned { .. } => false,
+        },
+        Factor::Turned { series, code } => match right {
+            Factor::Turned {
+                series: other,
+                code: tree,
+            } => series == other && code == tree,
+            Factor::Fixed { .. } | Factor::Flow { .. } | Factor::At { .. } => false,
+        },
+    }
+}
+
+/// The place of a factor before this one that is the same.
+fn same_before(factors: &[Factor], place: usize) -> Option<usize>
+    requires { place < length factors.now }
+    ensures { IfSome result (λ first. (first < place) × (slice_get factors.now first ≡ slice_get factors.now place)) }
+{
+    let factor = &factors[place];
+    'earlier: for first in 0..place {
+        if is_same_factor(&factors[first], factor) {
+            return Some(first);
+        }
+    }
+    None
+}
+
+/// The value of a factor that needs no look, or that stands in the term before.
+fn value_in_place(book: &Book, factors: &[Factor], place: usize, known: &[Coef]) -> Option<Coef>
+    requires in_book { AllByRecursion (FactorIn (length book.now)) factors.now }
+    requires fits { AllByRecursion (FactorFits book.now) factors.now }
+    requires place { place < length factors.now }
+    requires before { length known.now ≡ place }
+    ensures awaited { (factor : Factor) → slice_get factors.now place ≡ Some factor → IfNone result (IsSomeAnd (pair_in factor) (λ pair. IsPair book.now pair)) }
+    ensures value { (tables : List Table) (factor : Factor) → slice_get factors.now place ≡ Some factor → Knows tables book.now factors.now known.now → IfSome result (λ value. value ≡ factor_at checked (written_at tables) (factor_in book.now factor)) }
+{
+    let factor = &factors[place];
+    match settled(book, factor) {
+        Some(value) => Some(value),
+        None => match same_before(factors, place) {
+            Some(first) => Some(known[first]),
+            None => None,
+        },
+    }
+}
+
+/// Puts in the values of the next factors that need no look, or that stand in the term before, up to the first that is awaited.
 fn settle(book: &Book, factors: &[Factor], known: &mut Known) -> Option<Pair>
     requires in_book { AllByRecursion (FactorIn (length book.now)) factors.now }
+    requires fits { AllByRecursion (FactorFits book.now) factors.now }
     requires room { length factors.now ≤ MAX_FACTORS }
     requires within { length known.old ≤ length factors.now }
     ensures reached { MatchOption result (length known.new ≡ length factors.now) (λ pair. awaited_at factors.now (length known.new) ≡ Some pair) }
     ensures looked { IfSome result (λ pair. IsPair book.now pair) }
+    ensures grows { length known.old ≤ length known.new }
     ensures knows { (tables : List Table) → Knows tables book.now factors.now known.old → Knows tables book.now factors.now known.new }
 {
     'factors: for place in known.len()..factors.len() {
-        let factor = factors[place];
-        match settled(book, &factor) {
-            None => return pair_of(&factor),
+        let factor = &factors[place];
+        match value_in_place(book, factors, place, known.as_slice()) {
+            None => return pair_of(factor),
             Some(value) => known.push(value),
         }
     }
@@ -152,12 +213,15 @@ fn settle(book: &Book, factors: &[Factor], known: &mut Known) -> Option<Pair>
 impl Frame {
     /// Before the first term.
     pub(crate) fn start<L: Ledger>(book: &Book, pair: &Pair, steps: &mut Steps<L>) -> Frame
-        requires known { pair.now.series < length book.now }
+        requires pair { IsPair book.now pair.now }
         requires planned { HasPlan (series_at book.now pair.now.series) }
+        requires colours { ColoursFit (series_at book.now pair.now.series) }
         ensures pair { result.pair ≡ pair.now }
-        ensures known { FrameIn (length book.now) result }
+        ensures known { FrameIn book.now result }
+        ensures ahead { suc (suc (ahead book.now result)) ≡ pair_calls book.now pair.now }
         ensures goes_on { (tables : List Table) → Suits tables book.now → GoesOn tables book.now result }
     {
+        let _order = pair.code.order();
         Frame {
             pair: *pair,
             sum: Coef::Value(Frac::whole(0)),
@@ -170,12 +234,16 @@ impl Frame {
         }
     }
 
-    /// Begins the work on a term.
-    fn load(&mut self, term: Term)
-        ensures { self.new ≡ record self.old { term = term; known = [] } }
+    /// Takes up the next term. False after the last.
+    fn load<L: Ledger>(&mut self, steps: &mut Steps<L>) -> bool
+        ensures rest { self.new ≡ record self.old { term = self.new.term; known = self.new.known; plan = self.new.plan } }
+        ensures known { self.new.known ≡ [] }
+        ensures left { (es : List Series) → MatchBool result (plan_left es self.old.plan ≡ step_in es self.new.term ∷ plan_left es self.new.plan) (plan_left es self.old.plan ≡ []) }
+        ensures in_book { (n : ℕ) → PlanIn n self.old.plan → IsTrue result → TermIn n self.new.term }
+        ensures later_in_book { (n : ℕ) → PlanIn n self.old.plan → PlanIn n self.new.plan }
     {
-        self.term = term;
-        self.known = Known::new();
+        self.known.clear();
+        self.plan.next(&mut self.term, steps)
     }
 
     /// Brings the term into the sum.
@@ -187,12 +255,13 @@ impl Frame {
 
     /// Goes on with the factors of the term, and brings it into the sum where none of them is awaited.
     fn finish_term(&mut self, book: &Book) -> Option<Pair>
-        requires known { FrameIn (length book.now) self.old }
+        requires known { FrameIn book.now self.old }
         requires within { length self.old.known ≤ length self.old.term.factors.items }
         ensures pair { self.new.pair ≡ self.old.pair }
         ensures plan { self.new.plan ≡ self.old.plan }
-        ensures known { FrameIn (length book.now) self.new }
+        ensures known { FrameIn book.now self.new }
         ensures awaits { IfSome result (λ pair. Awaits book.now self.new pair) }
+        ensures nearer { IfSome result (λ pair. rest book.now self.new + pair_calls book.now pair ≤ suc (ahead book.now self.old)) }
         ensures come { (tables : List Table) → IsOn tables book.now self.old → MatchOption result (GoesOn tables book.now self.new) (λ _. IsOn tables book.now self.new) }
     {
         let awaited = settle(book, self.term.factors.as_slice(), &mut self.known);
@@ -204,13 +273,13 @@ impl Frame {
 
     /// Goes on with the next term, up to the first factor that is awaited.
     pub(crate) fn go_on<L: Ledger>(&mut self, book: &Book, steps: &mut Steps<L>) -> Option<Pair>
-        requires known { FrameIn (length book.now) self.old }
+        requires known { FrameIn book.now self.old }
         ensures pair { self.new.pair ≡ self.old.pair }
         ensures awaits { IfSome result (λ pair. Awaits book.now self.new pair) }
+        ensures nearer { IfSome result (λ pair. rest book.now self.new + pair_calls book.now pair ≤ suc (steps_calls (plan_left book.now self.old.plan))) }
         ensures come { (tables : List Table) → GoesOn tables book.now self.old → HasCome tables book.now result self.new }
     {
-        'terms: while let Some(term) = self.plan.next(steps) {
-            self.load(term);
+        'terms: while self.load(steps) {
             let awaited = self.finish_term(book);
             if awaited.is_some() {
                 return awaited;
@@ -226,10 +295,11 @@ impl Frame {
         value: Coef,
         steps: &mut Steps<L>,
     ) -> Option<Pair>
-        requires known { FrameIn (length book.now) self.old }
+        requires known { FrameIn book.now self.old }
         requires waits { IsSome (awaited self.old) }
         ensures pair { self.new.pair ≡ self.old.pair }
         ensures awaits { IfSome result (λ pair. Awaits book.now self.new pair) }
+        ensures nearer { IfSome result (λ pair. rest book.now self.new + pair_calls book.now pair ≤ rest book.now self.old) }
         ensures come { (tables : List Table) → IsOn tables book.now self.old → IsSomeAnd (awaited self.old) (λ pair. value ≡ value_at_pair tables book.now pair) → HasCome tables book.now result self.new }
     {
         self.put(value);
@@ -245,10 +315,11 @@ impl Frame {
         requires waits { IsSome (awaited self.old) }
         ensures rest { self.new ≡ record self.old { known = self.new.known } }
         ensures within { length self.new.known ≤ length self.new.term.factors.items }
+        ensures ahead { (es : List Series) → suc (ahead es self.new) ≡ rest es self.old }
         ensures on { (tables : List Table) (es : List Series) → IsOn tables es self.old → IsSomeAnd (awaited self.old) (λ pair. value ≡ value_at_pair tables es pair) → IsOn tables es self.new }
     {
         let factors = self.term.factors.as_slice();
-        let factor = factors[self.known.len()];
-        self.known.push(handed(value, &factor));
+        let factor = &factors[self.known.len()];
+        self.known.push(handed(value, factor));
     }
 }

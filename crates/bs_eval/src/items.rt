@@ -1,6 +1,6 @@
 //! The terms that come of the splittings or the partitions of a tree, one after the other.
 
-ghost use Rattle.std.specs.Prelude.{◌≡◌, ◌<◌, ◌∷◌, [], List, map, length, MatchOption, IfSome, ℕ};
+ghost use Rattle.std.specs.Prelude.{◌≡◌, ◌<◌, ◌∷◌, [], List, map, length, MatchOption, MatchBool, IsTrue, ℕ};
 ghost use Rattle.bs_split.specs.Splitting.{split_codes, init};
 ghost use Rattle.bs_part.specs.Partition.{part_codes, tail};
 ghost use Rattle.bs_series.specs.Series.{Series};
@@ -9,7 +9,7 @@ ghost use Rattle.bs_eval.specs.Left.{split_of, part_of, kept_in, outer_in, split
 ghost use Rattle.bs_series.specs.Plan.{at};
 ghost use Rattle.bs_eval.specs.declared.items.Items.TheVariants as items;
 
-use crate::factor::{Factor, Operation, Term, product, turned_product};
+use crate::factor::{Factor, Operation, Term, put_product, put_turned_product};
 use bs_frac::Frac;
 use bs_part::{Part, Parts};
 use bs_series::SeriesId;
@@ -51,30 +51,32 @@ impl SplitRule {
         }
     }
 
-    /// The term of a splitting.
-    fn term(&self, item: &Split) -> Term
-        ensures is { (es : List Series) → step_in es result ≡ split_step es self.now (split_of item.now) }
-        ensures known { (n : ℕ) → SplitRuleIn n self.now → TermIn n result }
+    /// Makes the term that of a splitting.
+    fn put(&self, item: &Split, term: &mut Term)
+        ensures is { (es : List Series) → step_in es term.new ≡ split_step es self.now (split_of item.now) }
+        ensures known { (n : ℕ) → SplitRuleIn n self.now → TermIn n term.new }
     {
-        product(
-            self.operation,
+        term.operation = self.operation;
+        put_product(
+            &mut term.factors,
             self.kept_factor(item.kept),
             self.cut,
             &item.forest,
-        )
+        );
     }
 
     /// The same with the sign of the order of each tree that is cut off.
-    fn turned_term(&self, item: &Split) -> Term
-        ensures is { (es : List Series) → step_in es result ≡ turned_step es self.now (split_of item.now) }
-        ensures known { (n : ℕ) → SplitRuleIn n self.now → TermIn n result }
+    fn put_turned(&self, item: &Split, term: &mut Term)
+        ensures is { (es : List Series) → step_in es term.new ≡ turned_step es self.now (split_of item.now) }
+        ensures known { (n : ℕ) → SplitRuleIn n self.now → TermIn n term.new }
     {
-        turned_product(
-            self.operation,
+        term.operation = self.operation;
+        put_turned_product(
+            &mut term.factors,
             self.kept_factor(item.kept),
             self.cut,
             &item.forest,
-        )
+        );
     }
 }
 
@@ -93,17 +95,18 @@ impl PartRule {
         }
     }
 
-    /// The term of a partition.
-    fn term(&self, item: &Part) -> Term
-        ensures is { (es : List Series) → step_in es result ≡ part_step es self.now (part_of item.now) }
-        ensures known { (n : ℕ) → PartRuleIn n self.now → TermIn n result }
+    /// Makes the term that of a partition.
+    fn put(&self, item: &Part, term: &mut Term)
+        ensures is { (es : List Series) → step_in es term.new ≡ part_step es self.now (part_of item.now) }
+        ensures known { (n : ℕ) → PartRuleIn n self.now → TermIn n term.new }
     {
-        product(
-            self.operation,
+        term.operation = self.operation;
+        put_product(
+            &mut term.factors,
             self.outer_factor(item.skeleton),
             self.inner,
             &item.parts,
-        )
+        );
     }
 }
 
@@ -175,29 +178,41 @@ impl Items {
         Items::Parts { rule, items }
     }
 
-    /// The next term. `None` after the last.
-    pub(crate) fn next<L: Ledger>(&mut self, steps: &mut Steps<L>) -> Option<Term>
-        ensures left { (es : List Series) → MatchOption result ((items_left es self.old ≡ []) × (items_left es self.new ≡ [])) (λ term. items_left es self.old ≡ step_in es term ∷ items_left es self.new) }
-        ensures known { (n : ℕ) → ItemsIn n self.old → IfSome result (λ term. TermIn n term) }
+    /// Makes the term the next one. False after the last.
+    pub(crate) fn next<L: Ledger>(&mut self, term: &mut Term, steps: &mut Steps<L>) -> bool
+        ensures left { (es : List Series) → MatchBool result (items_left es self.old ≡ step_in es term.new ∷ items_left es self.new) ((items_left es self.old ≡ []) × (items_left es self.new ≡ [])) }
+        ensures known { (n : ℕ) → ItemsIn n self.old → IsTrue result → TermIn n term.new }
         ensures later_known { (n : ℕ) → ItemsIn n self.old → ItemsIn n self.new }
     {
         match self {
-            Items::Empty => None,
+            Items::Empty => false,
             Items::Splits { rule, items } => match items.next(steps) {
-                None => None,
-                Some(item) => Some(rule.term(&item)),
+                None => false,
+                Some(item) => {
+                    rule.put(&item, term);
+                    true
+                }
             },
             Items::ButLast { rule, items } => match items.next(steps) {
-                None => None,
-                Some(item) => Some(rule.term(&item)),
+                None => false,
+                Some(item) => {
+                    rule.put(&item, term);
+                    true
+                }
             },
             Items::Turned { rule, items } => match items.next(steps) {
-                None => None,
-                Some(item) => Some(rule.turned_term(&item)),
+                None => false,
+                Some(item) => {
+                    rule.put_turned(&item, term);
+                    true
+                }
             },
             Items::Parts { rule, items } => match items.next(steps) {
-                None => None,
-                Some(item) => Some(rule.term(&item)),
+                None => false,
+                Some(item) => {
+                    rule.put(&item, term);
+                    true
+                }
             },
         }
     }

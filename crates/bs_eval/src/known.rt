@@ -36,6 +36,13 @@ impl Known {
         }
     }
 
+    /// Forgets the values.
+    pub(crate) fn clear(&mut self)
+        ensures { self.new ≡ [] }
+    {
+        self.len = 0;
+    }
+
     /// The number of values.
     pub(crate) fn len(&self) -> usize
         ensures { result ≡ length self.now }

@@ -10,5 +10,7 @@ mod known;
 mod plan;
 #[cfg(test)]
 mod tests;
+mod whole;
 
 pub use eval::{Ask, Eval};
+pub use whole::evaluate;

@@ -1,6 +1,6 @@
 //! The plan of a value, its terms one after the other.
 
-ghost use Rattle.std.specs.Prelude.{◌≡◌, ◌<◌, ◌∷◌, [], List, length, MatchOption, IfSome, ℕ, None};
+ghost use Rattle.std.specs.Prelude.{◌≡◌, ◌<◌, ◌∷◌, [], List, length, MatchBool, IsTrue, ℕ, None};
 ghost use Rattle.bs_series.specs.Series.{Series, compose, inverse, adjoint, substitute, modified, modifying, scale};
 ghost use Rattle.bs_series.specs.Plan.{HasPlan};
 ghost use Rattle.bs_series.specs.SeriesCode.{plan_at};
@@ -180,27 +180,31 @@ impl Plan {
         }
     }
 
-    /// The next term. `None` after the last.
-    pub(crate) fn next<L: Ledger>(&mut self, steps: &mut Steps<L>) -> Option<Term>
-        ensures left { (es : List Series) → MatchOption result (plan_left es self.old ≡ []) (λ term. plan_left es self.old ≡ step_in es term ∷ plan_left es self.new) }
-        ensures known { (n : ℕ) → PlanIn n self.old → IfSome result (λ term. TermIn n term) }
+    /// Makes the term the next one. False after the last.
+    pub(crate) fn next<L: Ledger>(&mut self, term: &mut Term, steps: &mut Steps<L>) -> bool
+        ensures left { (es : List Series) → MatchBool result (plan_left es self.old ≡ step_in es term.new ∷ plan_left es self.new) (plan_left es self.old ≡ []) }
+        ensures known { (n : ℕ) → PlanIn n self.old → IsTrue result → TermIn n term.new }
         ensures later_known { (n : ℕ) → PlanIn n self.old → PlanIn n self.new }
     {
-        if let Some(term) = self.head.take() {
-            return Some(term);
+        if let Some(head) = self.head.take() {
+            *term = head;
+            return true;
         }
-        if let Some(term) = self.items.next(steps) {
-            return Some(term);
+        if self.items.next(term, steps) {
+            return true;
         }
         match self.divisor.take() {
-            None => None,
-            Some(series) => Some(single(
-                Operation::Divide,
-                Factor::At {
-                    series,
-                    code: Code::leaf(0),
-                },
-            )),
+            None => false,
+            Some(series) => {
+                *term = single(
+                    Operation::Divide,
+                    Factor::At {
+                        series,
+                        code: Code::leaf(0),
+                    },
+                );
+                true
+            }
         }
     }
 }

@@ -14,3 +14,4 @@ pub mod Written
 pub mod Solvable
 pub mod Nodes
 pub mod KeyLaws
+pub mod Colours

@@ -10,7 +10,7 @@
 --   Refuses tables s f   == f is the first of them that does not hold; memory may run out where all do
 --   IsWantOfMemory f     == the fault is that memory ran out
 --   HasTable tables s    == of a method: its tableau stands in the list and has its number of colours
---   IsSuitable tables s, Suits tables es == that and IsSolvable, of a series and of each of a list
+--   IsSuitable tables s, Suits tables es == that, ColoursFit and IsSolvable, of a series and of each of a list
 --
 -- Only the outermost operation of the expression is looked at: its operands were accepted before.
 --
@@ -35,9 +35,9 @@ ColoursFit (method n k) = Unit {0}
 ColoursFit (compose a b) = colours_of a ≡ colours_of b
 ColoursFit (inverse a) = Unit {0}
 ColoursFit (adjoint a) = Unit {0}
-ColoursFit (substitute b a) = colours_of a ≤ 1
+ColoursFit (substitute b a) = colours_of a ≡ 1
 ColoursFit (modified a) = Unit {0}
-ColoursFit (modifying a) = colours_of a ≤ 1
+ColoursFit (modifying a) = colours_of a ≡ 1
 ColoursFit (scale a c) = Unit {0}
 
 abbrev pub EmptyFits : Series → Type 0
@@ -102,6 +102,7 @@ HasTable tables (scale a c) = Unit {0}
 
 pub record IsSuitable (tables : List Table) (s : Series) : Type 0 where
   pub table : HasTable tables s
+  pub colours : ColoursFit s
   pub solvable : IsSolvable tables s
 
 abbrev pub Suits : List Table → List Series → Type 0

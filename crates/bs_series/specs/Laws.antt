@@ -12,6 +12,7 @@
 --   PlannedLaw          == a written value is its plan carried out over written values; so is a value
 --   PlannedAtLaw        == the same by codes
 --   BelowLaw            == each factor of a plan is a smaller expression, or the same one at a smaller tree
+--   ColoursLaw          == where the colours of a series fit, and its tree has only its colours, so it is with each factor of its plan
 --
 --   IsMap a             == a gives each tree a fraction of positive denominator
 --   AgreeTo n x y       == x and y have the same fraction at each canonical tree of at most n nodes
@@ -25,14 +26,16 @@ use Rattle.std.specs.List.{AllByRecursion}
 use Rattle.bs_frac.specs.Fraction.{Fraction, SameFraction, IsReduced, whole}
 use Rattle.bs_frac.specs.Written.{exactly, checked, IsZero}
 use Rattle.bs_tree.specs.Tree.{Tree, order}
+use Rattle.bs_tree.specs.Code.{IsCode}
 use Rattle.bs_tree.specs.SortingLaws.{IsCanonical}
 use Rattle.bs_part.specs.Partition.{leaf}
 use Rattle.bs_tableau.specs.Table.{Table, IsBegun}
 use Rattle.bs_tableau.specs.Laws.{IfValue}
-use Rattle.bs_series.specs.Series.{Series, exact, identity, average, method, compose, inverse, adjoint, substitute, modified, modifying, scale}
+use Rattle.bs_series.specs.Series.{Series, exact, identity, average, method, compose, inverse, adjoint, substitute, modified, modifying, scale, colours_of}
 use Rattle.bs_series.specs.Value.{composed, inverse_of, adjoint_of, signed_by, substituted, modified_of, modifying_of, exact_value, value, written}
-use Rattle.bs_series.specs.Plan.{HasPlan, plan, carried_out, BelowPlan}
-use Rattle.bs_series.specs.SeriesCode.{Code, written_at, plan_at, carried_out_at}
+use Rattle.bs_series.specs.Plan.{HasPlan, plan, carried_out, plan_factors, BelowPlan}
+use Rattle.bs_series.specs.SeriesCode.{Code, IsColouredCode, HasItsColours, written_at, plan_at, carried_out_at}
+use Rattle.bs_series.specs.Accepted.{ColoursFit}
 
 -- ---- written values
 abbrev pub HasReducedFactors : Series → Type 0
@@ -93,3 +96,6 @@ PlannedAtLaw = (tables : List Table) (s : Series) → HasPlan s → (code : Code
 
 abbrev pub BelowLaw : Type 0
 BelowLaw = (s : Series) (t : Tree) → BelowPlan s t
+
+abbrev pub ColoursLaw : Type 0
+ColoursLaw = (s : Series) (code : Code) → IsCode code → ColoursFit s → IsColouredCode (colours_of s) code → AllByRecursion HasItsColours (plan_factors (plan_at s code))

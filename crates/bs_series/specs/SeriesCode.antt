@@ -7,6 +7,7 @@
 --   factor_at A look f, carried_out_at A look p == factors and plans by codes, over the numbers A
 --   leaf_code               == the code of the leaf of colour 0
 --   IsColouredCode k code   == each colour of the code is below k
+--   HasItsColours f         == the series of a factor has coefficients at trees of its tree's colours
 --
 -- Source: this project.
 use Rattle.std.specs.Prelude.{ℕ, ◌<◌, List, [], ◌∷◌, map, length, Option, Some, None, option_map, All}
@@ -17,9 +18,9 @@ use Rattle.bs_tree.specs.Tree.{Tree}
 use Rattle.bs_tree.specs.Canonical.{level_sequence}
 use Rattle.bs_tree.specs.Code.{tree_of}
 use Rattle.bs_tableau.specs.Table.{Table}
-use Rattle.bs_series.specs.Series.{Series}
+use Rattle.bs_series.specs.Series.{Series, colours_of}
 use Rattle.bs_series.specs.Value.{value, written, signed_by}
-use Rattle.bs_series.specs.Plan.{Factor, fixed, at, turned, Plan, plan, term_map}
+use Rattle.bs_series.specs.Plan.{Factor, fixed, at, turned, Plan, plan, term_map, OnFactor}
 
 abbrev pub Code : Type 0
 Code = List (ℕ × ℕ)
@@ -29,6 +30,9 @@ leaf_code = (1, 0) ∷ []
 
 abbrev pub IsColouredCode : ℕ → Code → Type 0
 IsColouredCode k code = All (λ pair. pair.1 < k) code
+
+abbrev pub HasItsColours : Factor Code → Type 0
+HasItsColours = OnFactor (λ s code. IsColouredCode (colours_of s) code)
 
 abbrev pub value_at : List Table → Series → Code → Fraction
 value_at tables s code = value tables s (tree_of code)

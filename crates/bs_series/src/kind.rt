@@ -7,7 +7,7 @@ use std::marker::Model;
 use thiserror::Error;
 
 /// The name of a series of a book.
-#[derive(Clone, Copy, PartialEq, Eq)]
+#[derive(Clone, Copy, PartialEq, Eq, PartialOrd, Ord)]
 pub struct SeriesId {
     place: usize,
 }

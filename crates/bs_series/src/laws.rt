@@ -1,6 +1,6 @@
 //! Laws of series: each function does nothing, and its contract is the law.
 
-ghost use Rattle.bs_series.specs.Laws.{WrittenIsValue, InverseLaw, ModifiedLaw, ModifyingLaw, DivisorLaw, AdjointLaw, PlannedLaw, PlannedAtLaw, BelowLaw};
+ghost use Rattle.bs_series.specs.Laws.{WrittenIsValue, InverseLaw, ModifiedLaw, ModifyingLaw, DivisorLaw, AdjointLaw, PlannedLaw, PlannedAtLaw, BelowLaw, ColoursLaw};
 ghost use Rattle.bs_series.specs.PlanItems.{ItemsLaw, NeededLaw};
 ghost use Rattle.bs_series.specs.Keys.{KeysDecide};
 
@@ -55,4 +55,9 @@ pub fn keys_decide()
 /// A plan reads smaller expressions, and its own expression at smaller trees alone.
 pub fn plans_read_smaller_pairs()
     ensures { BelowLaw }
+{}
+
+/// A plan reads its series only at trees of their colours.
+pub fn plans_keep_colours()
+    ensures { ColoursLaw }
 {}

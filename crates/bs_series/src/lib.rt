@@ -15,7 +15,7 @@ pub use kind::{Kind, SeriesFault, SeriesId};
 pub use laws::{
     adjoint_is_the_signed_inverse, inverse_solves_its_equation, keys_decide,
     modified_solves_its_equation, modifying_solves_its_equation, needed_pairs_come_of_the_plan,
-    plans_go_over_the_items, plans_read_smaller_pairs, values_are_their_plans,
+    plans_go_over_the_items, plans_keep_colours, plans_read_smaller_pairs, values_are_their_plans,
     written_value_is_the_value,
 };
 

@@ -59,8 +59,8 @@ impl Book {
     {
         match kind {
             Kind::Compose { first, second } => self.colours(*first) == self.colours(*second),
-            Kind::Substitute { outer, .. } => self.colours(*outer) <= 1,
-            Kind::Modifying { of } => self.colours(*of) <= 1,
+            Kind::Substitute { outer, .. } => self.colours(*outer) == 1,
+            Kind::Modifying { of } => self.colours(*of) == 1,
             _ => true,
         }
     }

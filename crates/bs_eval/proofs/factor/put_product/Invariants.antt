@@ -1,6 +1,6 @@
 use Rattle.std.proofs.Common.{◌≡◌, ◌+◌, ◌++◌, ◌∷◌, map, length, drop}
 use Rattle.bs_eval.specs.declared.factor.Factor.TheVariants as factor
-use Rattle.bs_eval.proofs.factor.product.Given as goal
+use Rattle.bs_eval.proofs.factor.put_product.Given as goal
 
 abbrev pub invariant-codes : goal.invariant-codes
 invariant-codes l =

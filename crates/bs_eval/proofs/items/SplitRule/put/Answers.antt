@@ -1,18 +1,19 @@
-use Rattle.std.proofs.Common.{◌∙◌, ◌∷◌, List, sym, ap₂, subst}
+use Rattle.std.proofs.Common.{◌∙◌, ◌∷◌, List, refl, sym, ap₂, subst}
 use Rattle.std.specs.List.{AllByRecursion}
 use Rattle.bs_series.specs.Plan.{Factor}
 use Rattle.bs_series.specs.SeriesCode.{Code}
 use Rattle.bs_eval.specs.Steps.{Step}
 use Rattle.bs_eval.specs.Left.{FactorIn}
+use Rattle.bs_eval.specs.declared.factor.Term.{Term}
 use Rattle.bs_eval.proofs.Plans.{step_is, at_all, all_in}
-use Rattle.bs_eval.proofs.items.SplitRule.term.Goals as goal
+use Rattle.bs_eval.proofs.items.SplitRule.put.Goals as goal
 
 pub returns-clause-is : goal.returns-clause-is
 returns-clause-is c = λ es.
-    step_is es c.product.result _ _ c.product.ensures.operation c.product.ensures.factors
+    step_is es (let t : Term = record { operation = c.args.self.now.operation; factors = c.put_product.new.factors } in t) _ _ refl c.put_product.ensures
     ∙ ap₂ (λ (f : Factor Code) (fs : List (Factor Code)). (let s : Step = record { operation = c.args.self.now.operation; factors = f ∷ fs } in s)) (c.kept_factor.ensures.is es) (at_all es c.args.self.now.cut c.args.item.now.forest)
 
 pub returns-clause-known : goal.returns-clause-known
 returns-clause-known c = λ n r. record {
-  factors = subst (AllByRecursion (FactorIn n)) (sym c.product.ensures.factors) (c.kept_factor.ensures.known n r.0, all_in n c.args.self.now.cut r.1 c.args.item.now.forest);
+  factors = subst (AllByRecursion (FactorIn n)) (sym c.put_product.ensures) (c.kept_factor.ensures.known n r.0, all_in n c.args.self.now.cut r.1 c.args.item.now.forest);
 }
