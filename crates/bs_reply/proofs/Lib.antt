@@ -1,1 +1,2 @@
 mod TreesTexts
+mod TwoValues

@@ -1,5 +1,5 @@
 -- The texts of the trees of a list, one after another.
-use Rattle.std.proofs.Common.{◌≡◌, ℕ, zero, suc, ◌+◌, List, [], ◌∷◌, ◌++◌, take, length, slice_get, Option, Some, None, refl, sym, ◌∙◌, ap, add-one, append_assoc, append-nil}
+use Rattle.std.proofs.Common.{◌≡◌, ℕ, zero, suc, ◌+◌, List, [], ◌∷◌, ◌++◌, take, length, slice_get, Some, sym, ◌∙◌, ap, add-one, append_assoc, append-nil}
 use Rattle.std.proofs.Math.Seq.{take-append_seam}
 use Rattle.bs_levels.specs.TreeText.{tree_text}
 use Rattle.bs_reply.specs.Lines.{trees_text}

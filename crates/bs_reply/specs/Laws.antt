@@ -3,7 +3,7 @@
 --   SaysTheOrder  == the order in the line with a tree's numbers is the number of its nodes
 --
 -- Source: this project.
-use Rattle.std.specs.Prelude.{◌≡◌, ◌++◌, List, ℕ, codes, decimal}
+use Rattle.std.specs.Prelude.{◌≡◌, ◌++◌, ℕ, codes, decimal}
 use Rattle.bs_tree.specs.Tree.{Tree, order}
 use Rattle.bs_tree.specs.Canonical.{canonical_sequence}
 use Rattle.bs_levels.specs.TreeText.{tree_text}

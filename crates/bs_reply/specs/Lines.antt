@@ -1,5 +1,5 @@
--- The text of a reply: one line, with its line feed. TREE is the text of a tree, COEF a fraction or the word
--- `overflow`, and N a number in decimal without leading zeros.
+-- The text of a reply: one line, with its line feed. TREE is the text of a tree, E that of a fraction, COEF a fraction or
+-- the word `overflow`, and N a number in decimal without leading zeros.
 --
 --   coef_text c                   == COEF
 --   head_line n                   == `session N`
@@ -19,6 +19,14 @@
 --   verdict_text v                == `yes`, `no`, or `unknown`
 --   condition_line code c target  == `TREE COEF FRACTION yes`, or `no`, or `unknown`: an order condition and whether it holds
 --   order_line n overflow         == `order N`, or `order N overflow`
+--   series_line name e k          == `series NAME empty E colours N`
+--   coeff_line c                  == `coeff COEF`
+--   print_line n e                == `print N empty E`, the first line of a series that is written out
+--   term_line code c              == `TREE COEF`
+--   equal_yes_line                == `equal yes`
+--   equal_empty_line e e'         == `equal no empty E E`
+--   difference_text c c'          == `equal no`, or `equal overflow` where one of the two is an overflow
+--   equal_at_line code c c'       == `equal no TREE COEF COEF`, or `equal overflow TREE COEF COEF`
 --   line_text line                == the text of any line
 --
 -- Source: this project's format of replies.
@@ -35,7 +43,7 @@ use Rattle.bs_reply.specs.declared.verdict.Verdict.TheVariants.{Holds, Fails, Un
 use Rattle.bs_reply.specs.declared.line.Word.{Word}
 use Rattle.bs_reply.specs.declared.line.Word.TheVariants.{Trees, Split, Partition, Conditions}
 use Rattle.bs_reply.specs.declared.line.Line.{Line}
-use Rattle.bs_reply.specs.declared.line.Line.TheVariants.{Head, Error, Tree, Drop, Same, Info, Weight, Count, Listed, Split as Splitting, Part, Condition, Order}
+use Rattle.bs_reply.specs.declared.line.Line.TheVariants.{Head, Error, Tree, Drop, Same, Info, Weight, Count, Listed, Split as Splitting, Part, Condition, Order, Series, Coeff, Print, Term, EqualYes, EqualEmpty, EqualAt}
 
 abbrev pub coef_text : Coef → List ℕ
 coef_text (Value x) = fraction_text x
@@ -104,6 +112,33 @@ abbrev pub order_line : ℕ → Bool → List ℕ
 order_line number true = codes "order " ++ decimal number ++ codes " overflow\n"
 order_line number false = codes "order " ++ decimal number ++ codes "\n"
 
+abbrev pub series_line : List ℕ → Fraction → ℕ → List ℕ
+series_line name empty colours = codes "series " ++ name ++ codes " empty " ++ fraction_text empty ++ codes " colours " ++ decimal colours ++ codes "\n"
+
+abbrev pub coeff_line : Coef → List ℕ
+coeff_line coef = codes "coeff " ++ coef_text coef ++ codes "\n"
+
+abbrev pub print_line : ℕ → Fraction → List ℕ
+print_line number empty = codes "print " ++ decimal number ++ codes " empty " ++ fraction_text empty ++ codes "\n"
+
+abbrev pub term_line : List (ℕ × ℕ) → Coef → List ℕ
+term_line code coef = tree_text code ++ codes " " ++ coef_text coef ++ codes "\n"
+
+abbrev pub equal_yes_line : List ℕ
+equal_yes_line = codes "equal yes\n"
+
+abbrev pub equal_empty_line : Fraction → Fraction → List ℕ
+equal_empty_line left right = codes "equal no empty " ++ fraction_text left ++ codes " " ++ fraction_text right ++ codes "\n"
+
+abbrev pub difference_text : Coef → Coef → List ℕ
+difference_text (Value x) (Value y) = codes "equal no"
+difference_text (Value x) Overflow = codes "equal overflow"
+difference_text Overflow right = codes "equal overflow"
+
+abbrev pub equal_at_line : List (ℕ × ℕ) → Coef → Coef → List ℕ
+equal_at_line code left right =
+    difference_text left right ++ codes " " ++ tree_text code ++ codes " " ++ coef_text left ++ codes " " ++ coef_text right ++ codes "\n"
+
 abbrev pub line_text : Line → List ℕ
 line_text (Head number) = head_line number
 line_text (Error number) = error_line number
@@ -118,3 +153,10 @@ line_text (Splitting kept forest) = split_line kept forest
 line_text (Part skeleton parts) = part_line skeleton parts
 line_text (Condition code coef target) = condition_line code coef target
 line_text (Order number overflow) = order_line number overflow
+line_text (Series name empty colours) = series_line name.now empty colours
+line_text (Coeff coef) = coeff_line coef
+line_text (Print number empty) = print_line number empty
+line_text (Term code coef) = term_line code coef
+line_text EqualYes = equal_yes_line
+line_text (EqualEmpty left right) = equal_empty_line left right
+line_text (EqualAt code left right) = equal_at_line code left right

@@ -8,7 +8,7 @@
 --
 -- Source: Butcher (2021), order conditions; the third answer is this project's.
 -- The code compares a sign and two magnitudes.
-use Rattle.std.specs.Prelude.{◌≡◌, ℕ, ℤ, pos, negsuc, Bool, true, false, ◌==◌, ◌&&◌, if◌then◌else◌, refl}
+use Rattle.std.specs.Prelude.{◌≡◌, ℤ, pos, negsuc, Bool, false, ◌==◌, ◌&&◌, if◌then◌else◌, refl}
 use Rattle.bs_frac.specs.Fraction.{Fraction}
 use Rattle.bs_frac.specs.declared.coef.Coef.{Coef}
 use Rattle.bs_frac.specs.declared.coef.Coef.TheVariants.{Value, Overflow}

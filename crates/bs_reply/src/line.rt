@@ -77,4 +77,37 @@ pub enum Line<'a> {
         number: u64,
         overflow: bool,
     },
+    /// A series has a name now: its value at the empty tree, and the number of its colours.
+    Series {
+        name: &'a [u8],
+        empty: Frac,
+        colours: u8,
+    },
+    /// The coefficient of a series at a tree.
+    Coeff {
+        coef: Coef,
+    },
+    /// A series is written out, its value at the empty tree first. It has so many lines more.
+    Print {
+        number: u64,
+        empty: Frac,
+    },
+    /// A tree of a series that is written out, and the coefficient there.
+    Term {
+        code: Code,
+        coef: Coef,
+    },
+    /// Two series are equal, as far as it was asked for.
+    EqualYes,
+    /// Two series differ at the empty tree.
+    EqualEmpty {
+        left: Frac,
+        right: Frac,
+    },
+    /// Two series differ at a tree, or an overflow there leaves it open.
+    EqualAt {
+        code: Code,
+        left: Coef,
+        right: Coef,
+    },
 }

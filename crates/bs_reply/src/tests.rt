@@ -239,6 +239,105 @@ fn conditions_and_orders(rt: HostRuntime) -> Result<(), Fail> {
 }
 
 #[test]
+fn series_and_coefficients(rt: HostRuntime) -> Result<(), Fail> {
+    let alloc = rt.alloc();
+    let lines = [
+        Line::Series {
+            name: b"a",
+            empty: Frac::read(b"1")?,
+            colours: 1,
+        },
+        Line::Series {
+            name: b"m2",
+            empty: Frac::read(b"0")?,
+            colours: 4,
+        },
+        Line::Coeff {
+            coef: value("7/3")?,
+        },
+        Line::Coeff {
+            coef: Coef::Overflow,
+        },
+    ];
+    let text =
+        b"series a empty 1 colours 1\nseries m2 empty 0 colours 4\ncoeff 7/3\ncoeff overflow\n";
+    assert_eq!(rt; text_of(alloc, &lines)?.as_slice(), text.as_slice());
+    Ok(())
+}
+
+#[test]
+fn series_written_out(rt: HostRuntime) -> Result<(), Fail> {
+    let alloc = rt.alloc();
+    let coloured = read_tree(alloc, b"1,2", Some(b"1,0".as_slice()))?.code();
+    let lines = [
+        Line::Print {
+            number: 4,
+            empty: Frac::read(b"0")?,
+        },
+        Line::Term {
+            code: code_of(alloc, "1")?,
+            coef: value("1")?,
+        },
+        Line::Term {
+            code: code_of(alloc, "1,2")?,
+            coef: value("-1/2")?,
+        },
+        Line::Term {
+            code: coloured,
+            coef: value("1/3")?,
+        },
+        Line::Term {
+            code: code_of(alloc, "1,2,2")?,
+            coef: Coef::Overflow,
+        },
+        Line::Print {
+            number: 1_205,
+            empty: Frac::read(b"1")?,
+        },
+    ];
+    let text = b"print 4 empty 0\n1 1\n1,2 -1/2\n1,2:1,0 1/3\n1,2,2 overflow\nprint 1205 empty 1\n";
+    assert_eq!(rt; text_of(alloc, &lines)?.as_slice(), text.as_slice());
+    Ok(())
+}
+
+#[test]
+fn series_compared(rt: HostRuntime) -> Result<(), Fail> {
+    let alloc = rt.alloc();
+    let code = code_of(alloc, "1,2,2")?;
+    let lines = [
+        Line::EqualYes,
+        Line::EqualEmpty {
+            left: Frac::read(b"1")?,
+            right: Frac::read(b"0")?,
+        },
+        Line::EqualAt {
+            code,
+            left: value("1/2")?,
+            right: value("1/4")?,
+        },
+        Line::EqualAt {
+            code,
+            left: Coef::Overflow,
+            right: value("-1/4")?,
+        },
+        Line::EqualAt {
+            code,
+            left: value("0")?,
+            right: Coef::Overflow,
+        },
+        Line::EqualAt {
+            code,
+            left: Coef::Overflow,
+            right: Coef::Overflow,
+        },
+    ];
+    let text =
+        b"equal yes\nequal no empty 1 0\nequal no 1,2,2 1/2 1/4\nequal overflow 1,2,2 overflow -1/4\nequal overflow 1,2,2 0 overflow\nequal overflow 1,2,2 overflow overflow\n";
+    assert_eq!(rt; text_of(alloc, &lines)?.as_slice(), text.as_slice());
+    Ok(())
+}
+
+#[test]
 fn verdicts(rt: HostRuntime) -> Result<(), Fail> {
     let target = Frac::read(b"1/24")?;
     assert_eq!(rt; Verdict::of(&value("2/48")?, &target), Verdict::Holds);

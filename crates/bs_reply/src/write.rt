@@ -4,7 +4,8 @@
 //! front back.
 
 ghost use Rattle.std.specs.Prelude.{◌≡◌, ◌++◌, take, codes, decimal, vec_len, OnOk, OnErr};
-ghost use Rattle.bs_reply.specs.Lines.{line_text, coef_text, head_line, error_line, tree_line, drop_line, same_line, info_line, weight_line, word_text, count_line, listed_line, trees_text, kept_text, split_line, part_line, verdict_text, condition_line, order_line};
+ghost use Rattle.bs_frac.specs.Text.{fraction_text};
+ghost use Rattle.bs_reply.specs.Lines.{line_text, coef_text, head_line, error_line, tree_line, drop_line, same_line, info_line, weight_line, word_text, count_line, listed_line, trees_text, kept_text, split_line, part_line, verdict_text, condition_line, order_line, series_line, coeff_line, print_line, term_line, equal_yes_line, equal_empty_line, difference_text, equal_at_line};
 
 use crate::line::{Line, Word};
 use crate::verdict::Verdict;
@@ -51,6 +52,17 @@ fn write_front(out: &mut Vec<u8>, line: &Line<'_>) -> Result<(), AllocError>
         Line::Part { skeleton, parts } => write_part(out, skeleton, parts),
         Line::Condition { code, coef, target } => write_condition(out, code, coef, target),
         Line::Order { number, overflow } => write_order(out, *number, *overflow),
+        Line::Series {
+            name,
+            empty,
+            colours,
+        } => write_series(out, name, empty, *colours),
+        Line::Coeff { coef } => write_coeff(out, coef),
+        Line::Print { number, empty } => write_print(out, *number, empty),
+        Line::Term { code, coef } => write_term(out, code, coef),
+        Line::EqualYes => write_equal_yes(out),
+        Line::EqualEmpty { left, right } => write_equal_empty(out, left, right),
+        Line::EqualAt { code, left, right } => write_equal_at(out, code, left, right),
     }
 }
 
@@ -64,6 +76,15 @@ fn write_number(out: &mut Vec<u8>, words: &[u8], number: u64) -> Result<(), Allo
     out.reserve(words.len() + digits.len())?;
     out.extend_from_slice(words)?;
     out.extend_from_slice(digits)
+}
+
+/// Appends the words and the fraction behind them, or some front of this.
+fn write_value(out: &mut Vec<u8>, words: &[u8], value: &Frac) -> Result<(), AllocError>
+    ensures written { OnOk result (out.new.items ≡ out.old.items ++ words.now ++ fraction_text value.now) }
+    ensures behind { OnErr result (take (vec_len out.old) out.new.items ≡ out.old.items) }
+{
+    out.extend_from_slice(words)?;
+    value.write(out)
 }
 
 fn write_coef(out: &mut Vec<u8>, coef: &Coef) -> Result<(), AllocError>
@@ -262,4 +283,88 @@ fn write_order(out: &mut Vec<u8>, number: u64, overflow: bool) -> Result<(), All
     } else {
         out.extend_from_slice(b"\n")
     }
+}
+
+fn write_series(out: &mut Vec<u8>, name: &[u8], empty: &Frac, colours: u8) -> Result<(), AllocError>
+    ensures written { OnOk result (out.new.items ≡ out.old.items ++ series_line name.now empty.now colours) }
+    ensures behind { OnErr result (take (vec_len out.old) out.new.items ≡ out.old.items) }
+{
+    out.extend_from_slice(b"series ")?;
+    out.extend_from_slice(name)?;
+    write_value(out, b" empty ", empty)?;
+    write_number(out, b" colours ", u64::from(colours))?;
+    out.extend_from_slice(b"\n")
+}
+
+fn write_coeff(out: &mut Vec<u8>, coef: &Coef) -> Result<(), AllocError>
+    ensures written { OnOk result (out.new.items ≡ out.old.items ++ coeff_line coef.now) }
+    ensures behind { OnErr result (take (vec_len out.old) out.new.items ≡ out.old.items) }
+{
+    out.extend_from_slice(b"coeff ")?;
+    write_coef(out, coef)?;
+    out.extend_from_slice(b"\n")
+}
+
+fn write_print(out: &mut Vec<u8>, number: u64, empty: &Frac) -> Result<(), AllocError>
+    ensures written { OnOk result (out.new.items ≡ out.old.items ++ print_line number empty.now) }
+    ensures behind { OnErr result (take (vec_len out.old) out.new.items ≡ out.old.items) }
+{
+    write_number(out, b"print ", number)?;
+    write_value(out, b" empty ", empty)?;
+    out.extend_from_slice(b"\n")
+}
+
+fn write_term(out: &mut Vec<u8>, code: &Code, coef: &Coef) -> Result<(), AllocError>
+    ensures written { OnOk result (out.new.items ≡ out.old.items ++ term_line code.now coef.now) }
+    ensures behind { OnErr result (take (vec_len out.old) out.new.items ≡ out.old.items) }
+{
+    write_tree(code, out)?;
+    out.extend_from_slice(b" ")?;
+    write_coef(out, coef)?;
+    out.extend_from_slice(b"\n")
+}
+
+fn write_equal_yes(out: &mut Vec<u8>) -> Result<(), AllocError>
+    ensures written { OnOk result (out.new.items ≡ out.old.items ++ equal_yes_line) }
+    ensures behind { OnErr result (take (vec_len out.old) out.new.items ≡ out.old.items) }
+{
+    out.extend_from_slice(b"equal yes\n")
+}
+
+fn write_equal_empty(out: &mut Vec<u8>, left: &Frac, right: &Frac) -> Result<(), AllocError>
+    ensures written { OnOk result (out.new.items ≡ out.old.items ++ equal_empty_line left.now right.now) }
+    ensures behind { OnErr result (take (vec_len out.old) out.new.items ≡ out.old.items) }
+{
+    write_value(out, b"equal no empty ", left)?;
+    write_value(out, b" ", right)?;
+    out.extend_from_slice(b"\n")
+}
+
+fn write_difference(out: &mut Vec<u8>, left: &Coef, right: &Coef) -> Result<(), AllocError>
+    ensures written { OnOk result (out.new.items ≡ out.old.items ++ difference_text left.now right.now) }
+    ensures unchanged { OnErr result (out.new.items ≡ out.old.items) }
+{
+    match (left, right) {
+        (Coef::Value(_), Coef::Value(_)) => out.extend_from_slice(b"equal no"),
+        _ => out.extend_from_slice(b"equal overflow"),
+    }
+}
+
+fn write_equal_at(
+    out: &mut Vec<u8>,
+    code: &Code,
+    left: &Coef,
+    right: &Coef,
+) -> Result<(), AllocError>
+    ensures written { OnOk result (out.new.items ≡ out.old.items ++ equal_at_line code.now left.now right.now) }
+    ensures behind { OnErr result (take (vec_len out.old) out.new.items ≡ out.old.items) }
+{
+    write_difference(out, left, right)?;
+    out.extend_from_slice(b" ")?;
+    write_tree(code, out)?;
+    out.extend_from_slice(b" ")?;
+    write_coef(out, left)?;
+    out.extend_from_slice(b" ")?;
+    write_coef(out, right)?;
+    out.extend_from_slice(b"\n")
 }
