@@ -1,0 +1,4 @@
+mod Pairs
+pub mod Fitting
+mod Packing
+mod Entries
