@@ -24,7 +24,7 @@ one_slot s c c' (x ∷ xs) one (zero, e, at, a, b) (suc k, e', at', a', b') = by
 one_slot s c c' (x ∷ xs) one (suc k, e, at, a, b) (zero, e', at', a', b') = by_test s x.slot (λ u. (if u then 1 else 0) + slots s xs ≤ 1 → c ≡ c') (λ q z. let r = has_slots s c xs (k, e, at, a, b) in absurd (omega arith)) (λ q _. absurd (q (sym (ap (λ (y : Entry). y.slot) (some-injective x e' at') ∙ a')))) one
 one_slot s c c' (x ∷ xs) one (suc k, e, at, a, b) (suc k', e', at', a', b') = one_slot s c c' xs (by_test s x.slot (λ u. (if u then 1 else 0) + slots s xs ≤ 1 → slots s xs ≤ 1) (λ _ z. omega arith) (λ _ z. omega arith) one) (k, e, at, a, b) (k', e', at', a', b')
 
-one_code : (s s' : ℕ) (c : Code) (es : List Entry) → codes c es ≤ 1 → Has s c es → Has s' c es → s ≡ s'
+pub one_code : (s s' : ℕ) (c : Code) (es : List Entry) → codes c es ≤ 1 → Has s c es → Has s' c es → s ≡ s'
 one_code s s' c [] one h h' = absurd (some-ne-none h.1 (sym h.2))
 one_code s s' c (x ∷ xs) one (zero, e, at, a, b) (zero, e', at', a', b') = sym a ∙ ap (λ (y : Entry). y.slot) (sym (some-injective x e at) ∙ some-injective x e' at') ∙ a'
 one_code s s' c (x ∷ xs) one (zero, e, at, a, b) (suc k, e', at', a', b') = code_test c x.code (λ u. (if u then 1 else 0) + codes c xs ≤ 1 → s ≡ s') (λ q z. let r = has_codes s' c xs (k, e', at', a', b') in absurd (omega arith)) (λ q _. absurd (q (sym (ap (λ (y : Entry). y.code) (some-injective x e at) ∙ b)))) one

@@ -10,3 +10,4 @@ pub mod Lists
 pub mod Places
 mod Examples
 pub mod KeyLaws
+pub mod Moves

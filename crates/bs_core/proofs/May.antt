@@ -32,7 +32,7 @@ both_true true true h = (refl, refl)
 both_true true false h = cc
 both_true false b h = cc
 
-either_true : (a b : Bool) → (a || b) ≡ true → (a ≡ true) ⊎ (b ≡ true)
+pub either_true : (a b : Bool) → (a || b) ≡ true → (a ≡ true) ⊎ (b ≡ true)
 either_true true b h = inl refl
 either_true false b h = inr h
 
@@ -46,7 +46,7 @@ pub has_all_true : (cs : List Code) (l : List Held) → has_all cs l ≡ true �
 has_all_true [] l h = tt
 has_all_true (c ∷ cs) l h = let b = both_true (nat_lt 0 (coded c l)) (has_all cs (without_code c l)) h in (ltb-true 0 (coded c l) b.0, has_all_true cs (without_code c l) b.1)
 
-is_entry_true : (s : ℕ) (c : Code) (es : List Entry) → is_entry s c es ≡ true → Has s c es
+pub is_entry_true : (s : ℕ) (c : Code) (es : List Entry) → is_entry s c es ≡ true → Has s c es
 is_entry_true s c [] h = cc
 is_entry_true s c (e ∷ es) h = ⊎_elim
     (λ a. let b = both_true (s == e.slot) (same c e.code) a in (zero, e, refl, sym (equal_true s e.slot b.0), sym (same_true c e.code b.1)))

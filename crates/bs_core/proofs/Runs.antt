@@ -9,7 +9,7 @@ use Rattle.bs_tree.proofs.Canon.{canon_is, isomorphic_from_canon, canon_from_iso
 use Rattle.bs_core.specs.Codes.{Code, children, same}
 use Rattle.bs_core.specs.Machine.{State, Stepped, step, run, opening, allowed, after, no_table, list_at, at_place, raised, added, interned, new_entry, taken, codes}
 use Rattle.bs_core.specs.Canonical.{Each, Orderly, Has, Stands, Canonical, every, all_times, link_lists, HasCode}
-use Rattle.bs_core.specs.Laws.{IsHeld, LivesThrough, OpeningIsCanonical, EventsKeepCanonical, EqualNamesAreEqualCodes, NamesDecideIsomorphism, LiveNamesKeepTheirTrees, NotAllowedChangesNothing}
+use Rattle.bs_core.specs.Laws.{IsHeld, LivesThrough, OpeningIsCanonical, EventsKeepCanonical, EqualNamesAreEqualCodes, NamesDecideTrees, NamesDecideIsomorphism, LiveNamesKeepTheirTrees, NotAllowedChangesNothing}
 use Rattle.bs_core.specs.declared.name.Name.{Name}
 use Rattle.bs_core.specs.declared.table.Held.{Held}
 use Rattle.bs_core.specs.declared.table.Table.{Table}
@@ -44,7 +44,7 @@ opening_canonical n m =
     }
 
 -- ---- steps and runs
-abbrev stepped : Bool → Event → State → Stepped
+abbrev pub stepped : Bool → Event → State → Stepped
 stepped b e g = if b then record { state = after e g; outcome = Done } else record { state = g; outcome = NotAllowed }
 
 pub step_keeps : EventsKeepCanonical
@@ -74,10 +74,8 @@ code_is n g p c h = subst IsCode h.2.4 (entry_of n g p c h).sound
 own_sequence : (s : Code) → IsCode s → IsCanonicalSequence (tree_of s) s
 own_sequence s h = subst (IsCanonicalSequence (tree_of s)) h.canonical (canon_is (tree_of s))
 
-pub names_decide : NamesDecideIsomorphism
-names_decide n m es i j p q codes hp hq =
-    let g = run n es (opening n m) in
-    let c = run_keeps n es (opening n m) codes (opening_canonical n m) in
+pub names_decide_trees : (n : ℕ) (g : State) → Canonical n g → NamesDecideTrees g
+names_decide_trees n g c i j p q hp hq =
     let sp = held_stand n g i p c hp in
     let sq = held_stand n g j q c hq in
     let a = stands_agree n g p q c sp sq in
@@ -86,6 +84,9 @@ names_decide n m es i j p q codes hp hq =
       λ e. isomorphic_from_canon (tree_of p.code) (tree_of q.code) p.code q.code wp wq (a.0 e),
       λ e. a.1 (canon_from_isomorphic (tree_of p.code) (tree_of q.code) p.code q.code wp wq e),
     )
+
+pub names_decide : NamesDecideIsomorphism
+names_decide n m es i j p q codes hp hq = names_decide_trees n (run n es (opening n m)) (run_keeps n es (opening n m) codes (opening_canonical n m)) i j p q hp hq
 
 -- ---- a name that lives keeps its entry
 raised_stand : (m : Name) (tables : List Table) (p : Held) → Stands tables p → Stands (at_place m.stripe (raised m.slot) tables) p

@@ -1,6 +1,7 @@
 -- Laws of the store machine. Each is the contract of a function of the module `laws`.
 --
 --   IsHeld g i p             == the party i has the pair p
+--   NamesDecideTrees g       == pairs of any parties have equal names exactly where their trees are isomorphic
 --   EventsKeepCanonical      == the opening state is canonical, and each event, allowed or not, keeps a canonical state
 --   NamesDecideIsomorphism   == over every list of events: pairs of any parties have equal names exactly where their trees are isomorphic
 --   EqualNamesAreEqualCodes  == so in each canonical state, by their codes
@@ -30,6 +31,9 @@ use Rattle.bs_core.specs.declared.event.Outcome.TheVariants.{NotAllowed}
 
 abbrev pub IsHeld : State → ℕ → Held → Type 0
 IsHeld g i p = (k : ℕ) × (get_elem? (list_at i g.lists) k ≡ some p)
+
+abbrev pub NamesDecideTrees : State → Type 0
+NamesDecideTrees g = (i j : ℕ) (p q : Held) → IsHeld g i p → IsHeld g j q → ((p.name ≡ q.name) ↔ IsTrue (isomorphic (tree_of p.code) (tree_of q.code)))
 
 abbrev pub OpeningIsCanonical : Type 0
 OpeningIsCanonical = (n m : ℕ) → Canonical n (opening n m)

@@ -3,3 +3,4 @@ pub mod Machine
 pub mod Canonical
 pub mod Laws
 pub mod Keys
+pub mod KeyEquality

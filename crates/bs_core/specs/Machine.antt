@@ -1,6 +1,7 @@
 -- A store of trees as a machine over events.
 --
 --   State                == for each stripe a table, for each party a list of pairs (name, code)
+--   state_of ts ls       == the state of these tables and these lists
 --   opening n m          == n tables with mark 0 and no entry, m empty lists
 --   times x l            == how many pairs of a list have the name x
 --   code_at x l          == the code of the first of them, a leaf where there is none; without x l: the list without it
@@ -13,6 +14,7 @@
 --   links_of e           == the links of an entry, as pairs with the children's codes
 --   freed s es           == those of the entry of this slot, where its count falls to 0
 --   is_dense s t         == the slot is below the mark, or is the mark while each slot below it has an entry
+--   HasParties m e       == the parties that an event names are below m
 --   allowed n e g        == what the event needs is there, among n stripes
 --   after e g            == what an allowed event does
 --   step n e g           == the state after the event and its outcome; run n es g: the state after a list of events
@@ -33,6 +35,9 @@ use Rattle.bs_core.specs.declared.event.Outcome.TheVariants.{Done, NotAllowed}
 pub record State : Type 0 where
   pub tables : List Table
   pub lists : List (List Held)
+
+abbrev pub state_of : List Table → List (List Held) → State
+state_of ts ls = record { tables = ts; lists = ls }
 
 -- the greatest count, which stays
 abbrev pub most : ℕ
@@ -216,6 +221,10 @@ other_in (Give p q n) = q
 other_in (Look p q n) = q
 other_in (Keep p q n) = q
 other_in (Evict q n) = q
+
+-- its parties are below this number
+abbrev pub HasParties : ℕ → Event → Type 0
+HasParties m e = (party_in e < m) × (other_in e < m)
 
 -- what the event needs of the list of its first party and of the table of its stripe
 abbrev pub needs : ℕ → Event → List Held → Table → Bool

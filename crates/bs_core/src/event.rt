@@ -1,6 +1,7 @@
 //! Events of the store, and how they end.
 ghost use Rattle.std.specs.Prelude.{◌≡◌};
 ghost use Rattle.bs_core.specs.Machine.{party_in, other_in, name_in};
+ghost use Rattle.bs_core.specs.Canonical.{HasCode};
 
 use crate::name::Name;
 use bs_tree::Code;
@@ -32,6 +33,23 @@ pub enum Outcome {
 }
 
 impl Event {
+    /// Tells that the code of an Intern is one.
+    pub fn known(&self)
+        ensures { HasCode self.now }
+    {
+        match self {
+            Event::Intern { code, .. } => {
+                let _order = code.order();
+            }
+            Event::Hold { .. } => {}
+            Event::Release { .. } => {}
+            Event::Give { .. } => {}
+            Event::Look { .. } => {}
+            Event::Keep { .. } => {}
+            Event::Evict { .. } => {}
+        }
+    }
+
     /// The first party that it names.
     pub fn party(&self) -> u32
         ensures { result ≡ party_in self.now }

@@ -1,11 +1,15 @@
 //! What a stripe compares in place of whole codes.
 ghost use Rattle.std.specs.Prelude.{◌≡◌, ◌<◌, ◌≤◌, length, IfOk};
+ghost use Rattle.std.specs.Cmp.{partial_equiv_from_equiv};
+ghost use Rattle.std.specs.Hash.{same_Alike};
+ghost use Rattle.bs_core.specs.KeyEquality.{same_key, key_equivalence, same_key-Decides, key_writes};
 ghost use Rattle.bs_core.specs.Keys.{Key};
 
 use crate::name::Name;
 use crate::names::Names;
 use bs_tree::{COLOURS, MAX_NODES};
 use std::alloc::{AllocError, Global};
+use std::hash::{Hash, Hasher};
 use std::marker::Model;
 
 /// The colour of a root, and the names of its children in order.
@@ -25,6 +29,31 @@ impl Model for Key {
     ghost view = { λ a. record { colour = a.colour; children = a.children } };
 
     ghost invariant = { λ a. (a.colour < COLOURS) × (length a.children < MAX_NODES) };
+}
+
+impl PartialEq for Key {
+    ghost eq = { same_key };
+
+    ghost laws = { partial_equiv_from_equiv key_equivalence };
+
+    fn eq(&self, other: &Key) -> bool {
+        self.colour == other.colour && self.children.as_slice() == other.children.as_slice()
+    }
+}
+
+impl Eq for Key {
+    ghost laws = { key_equivalence };
+}
+
+impl Hash for Key {
+    ghost hash_input = { key_writes };
+
+    ghost respects_eq = { (same_Alike key_writes same_key-Decides).fed };
+
+    fn hash<H: Hasher>(&self, state: &mut H) {
+        self.colour.hash(state);
+        self.children.as_slice().hash(state);
+    }
 }
 
 impl Key {

@@ -5,7 +5,7 @@ ghost use Rattle.bs_core.specs.Codes.{hashed, hash_from, stripe_of};
 use bs_tree::Code;
 
 /// The name of an entry: its stripe, and its slot there.
-#[derive(Clone, Copy, PartialEq, Eq, Default, Debug)]
+#[derive(Clone, Copy, PartialEq, Eq, Hash, Default, Debug)]
 pub struct Name {
     pub stripe: u16,
     pub slot: u64,

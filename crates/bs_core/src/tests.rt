@@ -1,6 +1,8 @@
 //! Worked rows: how many entries stand, which slots are free, and what a count at its type's end does.
+ghost use Rattle.std.specs.Prelude.{◌≡◌, length};
+ghost use Rattle.bs_core.specs.Machine.{HasParties};
 
-use crate::{Event, Hand, Held, Key, Name, Names, Table, stripe_of};
+use crate::{Core, Event, Hand, Held, Key, Name, Names, Outcome, Table, stripe_of};
 use bs_tree::Code;
 use std::alloc::Global;
 use std::test::Fail;
@@ -121,6 +123,134 @@ fn children_become_links(rt: HostRuntime) -> Result<(), Fail> {
     assert!(rt; links.len() == 2 && links[1].name.slot == 0);
     table.raise(0);
     assert!(rt; table.freed(alloc, 0)?.is_empty());
+    Ok(())
+}
+
+/// The entry of this slot, in a store of one stripe.
+fn at(slot: u64) -> Name
+    ensures { result ≡ record { stripe = 0; slot = slot } }
+{
+    Name { stripe: 0, slot }
+}
+
+/// Whether the event was done, in a store of two parties.
+fn is_done(core: &mut Core, event: Event) -> Result<bool, Fail>
+    requires event { HasParties 2 event }
+    requires parties { length core.old.lists ≡ 2 }
+    ensures { length core.new.lists ≡ 2 }
+{
+    Ok(core.step(&event)? == Outcome::Done)
+}
+
+/// Whether the first party got a pair of this code at this slot.
+fn interns(core: &mut Core, code: &Code, slot: u64) -> Result<bool, Fail>
+    requires { length core.old.lists ≡ 2 }
+    ensures { length core.new.lists ≡ 2 }
+{
+    is_done(
+        core,
+        Event::Intern {
+            party: 0,
+            code: *code,
+            name: at(slot),
+        },
+    )
+}
+
+/// Whether the first party gave a pair of this slot back.
+fn releases(core: &mut Core, slot: u64) -> Result<bool, Fail>
+    requires { length core.old.lists ≡ 2 }
+    ensures { length core.new.lists ≡ 2 }
+{
+    is_done(
+        core,
+        Event::Release {
+            party: 0,
+            name: at(slot),
+        },
+    )
+}
+
+/// A leaf at slot 1 of an empty stripe, at slot 0, and released by a party that does not have it.
+#[test]
+fn events_that_are_allowed(rt: HostRuntime) -> Result<(), Fail> {
+    let alloc = rt.alloc();
+    let mut core = Core::new(alloc, 1, 2)?;
+    assert!(rt; !interns(&mut core, &Code::leaf(0), 1)?);
+    assert!(rt; interns(&mut core, &Code::leaf(0), 0)?);
+    let other = Event::Release {
+        party: 1,
+        name: at(0),
+    };
+    assert!(rt; !is_done(&mut core, other)?);
+    assert!(rt; !interns(&mut core, &code_of(alloc, &[1, 2, 2])?, 1)?);
+    let give = Event::Give {
+        from: 0,
+        to: 1,
+        name: at(0),
+    };
+    assert!(rt; is_done(&mut core, give)?);
+    assert!(rt; core.held(0).is_empty() && core.held(1).len() == 1);
+    assert!(rt; is_done(&mut core, other)?);
+    assert!(rt; core.live() == 0);
+    Ok(())
+}
+
+/// Whether the first party got 1,2,3,2 at slot 2 by its children in order.
+fn interns_branched(alloc: Global, core: &mut Core) -> Result<bool, Fail>
+    requires { length core.old.lists ≡ 2 }
+    ensures { length core.new.lists ≡ 2 }
+{
+    let first = interns(core, &Code::leaf(0), 0)?;
+    let second = interns(core, &code_of(alloc, &[1, 2])?, 1)?;
+    let third = interns(core, &Code::leaf(0), 0)?;
+    let fourth = interns(core, &code_of(alloc, &[1, 2, 3, 2])?, 2)?;
+    Ok(first && second && third && fourth)
+}
+
+/// Whether the first party got 1,2,2,2 at slot 3.
+fn interns_bushy(alloc: Global, core: &mut Core) -> Result<bool, Fail>
+    requires { length core.old.lists ≡ 2 }
+    ensures { length core.new.lists ≡ 2 }
+{
+    let first = interns(core, &Code::leaf(0), 0)?;
+    let second = interns(core, &Code::leaf(0), 0)?;
+    let third = interns(core, &Code::leaf(0), 0)?;
+    let fourth = interns(core, &code_of(alloc, &[1, 2, 2, 2])?, 3)?;
+    Ok(first && second && third && fourth)
+}
+
+/// Whether the first party gave back a pair of each of these slots.
+fn releases_all(
+    core: &mut Core,
+    first: u64,
+    second: u64,
+    third: u64,
+    fourth: u64,
+) -> Result<bool, Fail>
+    requires { length core.old.lists ≡ 2 }
+    ensures { length core.new.lists ≡ 2 }
+{
+    let first = releases(core, first)?;
+    let second = releases(core, second)?;
+    let third = releases(core, third)?;
+    let fourth = releases(core, fourth)?;
+    Ok(first && second && third && fourth)
+}
+
+/// Subtrees are shared: 1,2,3,2 and 1,2,2,2 have four entries together, and each release leaves what the other needs.
+#[test]
+fn subtrees_are_shared(rt: HostRuntime) -> Result<(), Fail> {
+    let alloc = rt.alloc();
+    let mut core = Core::new(alloc, 1, 2)?;
+    assert!(rt; interns_branched(alloc, &mut core)?);
+    assert!(rt; core.live() == 3 && core.held(0).len() == 1);
+    assert!(rt; interns_bushy(alloc, &mut core)?);
+    assert!(rt; core.live() == 4 && core.held(0).len() == 2);
+    assert!(rt; releases_all(&mut core, 2, 1, 0, 0)?);
+    assert!(rt; core.live() == 2 && core.held(0).len() == 1);
+    assert!(rt; releases_all(&mut core, 3, 0, 0, 0)?);
+    assert!(rt; core.live() == 0 && core.held(0).is_empty());
     Ok(())
 }
 

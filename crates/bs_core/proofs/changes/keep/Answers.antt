@@ -1,0 +1,12 @@
+use Rattle.std.proofs.Common.{◌≡◌, ◌++◌, [], ◌∷◌, List, ap, ap₂, ◌∙◌}
+use Rattle.bs_core.specs.Machine.{state_of, pair, code_at, list_at, at_place}
+use Rattle.bs_core.specs.declared.table.Held.{Held}
+use Rattle.bs_core.proofs.Moves.{keep_is}
+use Rattle.bs_core.proofs.changes.keep.Goals as goal
+
+pub returns-clause-ok : goal.returns-clause-ok
+returns-clause-ok c =
+    let hs = c.args.hands.now.items in
+    let x = c.args.name in
+    let pair_is : c.pair_of-pair.result ≡ pair x (code_at x (list_at c.args.party hs)) = c.pair_of-pair.ensures ∙ ap (λ (ls : List (List Held)). pair x (code_at x (list_at c.args.party ls))) c.deref.ensures.value in
+    ap₂ state_of c.raise_at.ensures (c.in_ok-push_at.ensures.ok ∙ ap (λ (d : Held). at_place c.args.memo (λ (l : List Held). l ++ d ∷ []) hs) pair_is) ∙ keep_is c.args.party c.args.memo x c.args.tables.now.items hs
