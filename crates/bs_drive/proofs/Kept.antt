@@ -5,12 +5,20 @@ use Rattle.bs_tree.specs.Isomorphic.{isomorphic}
 use Rattle.bs_tree.specs.Code.{tree_of}
 use Rattle.bs_script.specs.Blocks.{ScriptLines}
 use Rattle.bs_session.specs.Names.{at, Sets}
-use Rattle.bs_session.specs.Machine.{State, IsTruthful, Interns, Releases, Compares, IsDone, SaysOn}
+use Rattle.bs_frac.specs.declared.coef.Coef.{Coef}
+use Rattle.bs_tableau.specs.Table.{Table}
+use Rattle.bs_series.specs.Series.{Series}
+use Rattle.bs_series.specs.SeriesCode.{Code, written_at}
+use Rattle.bs_series.specs.Expressions.{series_at}
+use Rattle.bs_session.specs.Works.{work_awaiting, IsHanded, StepsOn}
+use Rattle.bs_session.specs.Machine.{State, plain_of, IsTruthful, IsTruthfulOf, IsTrueOf, IsTrueValue, Interns, Releases, Compares, Works, IsDone, SaysOn}
+use Rattle.bs_session.specs.declared.asked.Asked.{Asked}
+use Rattle.bs_session.specs.declared.asked.Asked.TheVariants as asked
 use Rattle.bs_session.specs.declared.step.Step.{Step}
-use Rattle.bs_session.specs.declared.step.Step.TheVariants.{Intern, Release, Same, Done}
+use Rattle.bs_session.specs.declared.step.Step.TheVariants.{Intern, Release, Same, Look, Keep, Done}
 use Rattle.bs_session.specs.declared.live.LiveTree.{LiveTree}
 use Rattle.bs_session.specs.declared.step.Answer.{Answer}
-use Rattle.bs_session.specs.declared.step.Answer.TheVariants.{Go, Yes, No}
+use Rattle.bs_session.specs.declared.step.Answer.TheVariants.{Go, Yes, No, Found, Missing}
 use Rattle.bs_session.proofs.Sound.{at_cases}
 use Rattle.bs_drive.specs.Alone.{AreKept, yes_or_no, compared_codes, compared}
 
@@ -33,7 +41,7 @@ pub kept-intern : (script : ScriptLines) (codes : List (List (ℕ × ℕ))) (old
 kept-intern script codes old new tree code kept i = record {
   all = omega (arith, length-append codes (code ∷ []), kept.all, i.counted);
   each = λ name t found.
-      elim (at_cases old.live new.live i.name name _ i.live) [
+      elim (at_cases old.space.live new.space.live i.name name _ i.live) [
         | inl set ↦
             let e = some_is _ t (sym set.value ∙ found) in
             let here : slice_get (codes ++ code ∷ []) tree ≡ Some code = rw (i.next, ← kept.all) (get_last codes code) in
@@ -46,37 +54,61 @@ pub kept-release : (codes : List (List (ℕ × ℕ))) (old new : State) (tree : 
 kept-release codes old new tree kept r = record {
   all = kept.all ∙ sym r.counted;
   each = λ name t found.
-      elim (at_cases old.live new.live r.name name None r.gone) [
+      elim (at_cases old.space.live new.space.live r.name name None r.gone) [
         | inl set ↦ absurd (none_is_not t (sym set.value ∙ found))
         | inr same ↦ kept.each name t (sym same ∙ found)
       ];
 }
 
-pub kept-same : (codes : List (List (ℕ × ℕ))) (old new : State) → new.live ≡ old.live → new.interned ≡ old.interned → AreKept codes old → AreKept codes new
+pub kept-same : (codes : List (List (ℕ × ℕ))) (old new : State) → new.space.live ≡ old.space.live → new.interned ≡ old.interned → AreKept codes old → AreKept codes new
 kept-same codes old new live interned kept = record {
   all = kept.all ∙ sym interned;
   each = λ name t found. kept.each name t (subst (λ l. at name l ≡ Some t) live found);
 }
 
-truthful_by : (pair : LiveTree × LiveTree) (b : Bool) → isomorphic (tree_of pair.0.code) (tree_of pair.1.code) ≡ b → IsTruthful (Some pair) (yes_or_no b)
-truthful_by pair true e = e
-truthful_by pair false e = e
+truthful_by : (l r : LiveTree) (b : Bool) → isomorphic (tree_of l.code) (tree_of r.code) ≡ b → IsTrueOf l r (yes_or_no b)
+truthful_by l r true e = e
+truthful_by l r false e = e
 
-pub truthful-same : (codes : List (List (ℕ × ℕ))) (old new : State) (left right : ℕ) → AreKept codes old → Compares old new left right → IsTruthful new.asked (compared codes left right)
-truthful-same codes old new left right kept c =
+-- an answer to what was asked
+truthful-as : (script : ScriptLines) (s : State) (question : Asked) (answer : Answer) → s.asked ≡ question → IsTruthfulOf (plain_of script s) s.space.book s.work question answer → IsTruthful script s answer
+truthful-as script s question answer e h = subst (λ q. IsTruthfulOf (plain_of script s) s.space.book s.work q answer) (sym e) h
+
+pub truthful-go : (script : ScriptLines) (s : State) → s.asked ≡ asked.Nothing → IsTruthful script s Go
+truthful-go script s e = truthful-as script s asked.Nothing Go e tt
+
+pub truthful-same : (script : ScriptLines) (codes : List (List (ℕ × ℕ))) (old new : State) (left right : ℕ) → AreKept codes old → Compares old new left right → IsTruthful script new (compared codes left right)
+truthful-same script codes old new left right kept c =
     let first : slice_get codes left ≡ Some c.first.code = subst (λ n. slice_get codes n ≡ Some c.first.code) c.left_is (kept.each c.left_live.0 c.first c.left_live.1) in
     let second : slice_get codes right ≡ Some c.second.code = subst (λ n. slice_get codes n ≡ Some c.second.code) c.right_is (kept.each c.right_live.0 c.second c.right_live.1) in
-    rw (c.asked, first, second) (truthful_by (c.first, c.second) (isomorphic (tree_of c.first.code) (tree_of c.second.code)) refl)
+    let is : IsTrueOf c.first c.second (compared codes left right) = rw (first, second) (truthful_by c.first c.second (isomorphic (tree_of c.first.code) (tree_of c.second.code)) refl) in
+    truthful-as script new (asked.Same c.first c.second) (compared codes left right) c.asked is
+
+-- a value that was looked up
+pub truthful-found : (script : ScriptLines) (old new : State) (id : ℕ) (code : Code) (v : Coef) → Works script old new (Look id code) → v ≡ written_at (plain_of script new) (series_at new.space.book id) code → IsTruthful script new (Found v)
+truthful-found script old new id code v w is =
+    let handed : IsHanded (plain_of script new) new.space.book new.work (Some v) = rw w.is.1 is in
+    truthful-as script new asked.Value (Found v) w.asked handed
+
+pub truthful-missing : (script : ScriptLines) (old new : State) (step : Step) → Works script old new step → IsTruthful script new Missing
+truthful-missing script old new step w = truthful-as script new asked.Value Missing w.asked tt
+
+pub truthful-kept : (script : ScriptLines) (old new : State) (step : Step) → Works script old new step → IsTruthful script new Go
+truthful-kept script old new step w = truthful-as script new asked.Value Go w.asked tt
 
 -- a step that is not the last leaves what is said
 pub said-more : (step : Step) (old new : List ℕ) → (IsDone step → ⊥) → SaysOn step old new → new ≡ old
 said-more (Intern tree code) old new h s = s
 said-more (Release tree) old new h s = s
 said-more (Same left right) old new h s = s
+said-more (Look id code) old new h s = s
+said-more (Keep id code v) old new h s = s
 said-more (Done reply) old new h s = absurd (h tt)
 
 pub done_is : (step : Step) → IsDone step → (reply : Vec ℕ Global) × (step ≡ Done reply)
 done_is (Intern tree code) d = absurd d
 done_is (Release tree) d = absurd d
 done_is (Same left right) d = absurd d
+done_is (Look id code) d = absurd d
+done_is (Keep id code v) d = absurd d
 done_is (Done reply) d = (reply, refl)

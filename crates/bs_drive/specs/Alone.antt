@@ -15,7 +15,7 @@ use Rattle.bs_session.specs.declared.step.Answer.TheVariants.{Yes, No}
 
 pub record AreKept (codes : List (List (ℕ × ℕ))) (s : State) : Type 0 where
   pub all : length codes ≡ s.interned
-  pub each : (name : List ℕ) (tree : LiveTree) → at name s.live ≡ Some tree → slice_get codes tree.number ≡ Some tree.code
+  pub each : (name : List ℕ) (tree : LiveTree) → at name s.space.live ≡ Some tree → slice_get codes tree.number ≡ Some tree.code
 
 abbrev pub yes_or_no : Bool → Answer
 yes_or_no true = Yes

@@ -1,20 +1,24 @@
-//! A session by itself: its trees are kept by their numbers, and two are compared by their codes.
+//! A session by itself: its trees are kept by their numbers, and two are compared by their codes; its coefficients are remembered in a
+//! sheet of its own.
 
 ghost use Rattle.std.specs.Prelude.{◌≡◌, ◌<◌, length, IfOk, OnOk};
 ghost use Rattle.bs_script.specs.Blocks.{ScriptLines};
-ghost use Rattle.bs_session.specs.Machine.{State, session_at, IsTruthful, Takes};
+ghost use Rattle.bs_alone.specs.Fits.{Fits};
+ghost use Rattle.bs_session.specs.Machine.{State, session_at, plain_of, IsTruthful, Takes};
 ghost use Rattle.bs_session.specs.Replies.{session_replies};
 ghost use Rattle.bs_drive.specs.Alone.{AreKept, compared};
 
+use bs_alone::Sheet;
 use bs_script::Script;
 use bs_session::{Answer, Session, Step};
 use bs_tree::Code;
 use std::alloc::{AllocError, Global};
 
-/// The codes of a session's trees, by their numbers, after a step; and the answer to the step.
-fn answer(codes: &mut Vec<Code>, step: &Step) -> Result<Answer, AllocError>
-    ensures truthful { (script : ScriptLines) (old new : State) → AreKept codes.old.items old → Takes script old new step.now → IfOk result (λ answer. IsTruthful new.asked answer) }
+/// The codes of a session's trees, by their numbers, and its remembered coefficients after a step; and the answer to the step.
+fn answer(codes: &mut Vec<Code>, sheet: &mut Sheet, step: &Step) -> Result<Answer, AllocError>
+    ensures truthful { (script : ScriptLines) (old new : State) → AreKept codes.old.items old → Fits (plain_of script new) new.space.book sheet.old → Takes script old new step.now → IfOk result (λ answer. IsTruthful script new answer) }
     ensures kept { (script : ScriptLines) (old new : State) → AreKept codes.old.items old → Takes script old new step.now → OnOk result (AreKept codes.new.items new) }
+    ensures fits { (script : ScriptLines) (old new : State) → Fits (plain_of script new) new.space.book sheet.old → Takes script old new step.now → OnOk result (Fits (plain_of script new) new.space.book sheet.new) }
 {
     match step {
         Step::Intern { code, .. } => {
@@ -22,6 +26,14 @@ fn answer(codes: &mut Vec<Code>, step: &Step) -> Result<Answer, AllocError>
             Ok(Answer::Go)
         }
         Step::Same { left, right } => Ok(compared(codes, *left, *right)),
+        Step::Look { series, code } => match sheet.look(*series, code) {
+            Some(coef) => Ok(Answer::Found(coef)),
+            None => Ok(Answer::Missing),
+        },
+        Step::Keep { series, code, coef } => {
+            sheet.keep(*series, *code, *coef)?;
+            Ok(Answer::Go)
+        }
         Step::Release { .. } | Step::Done { .. } => Ok(Answer::Go),
     }
 }
@@ -38,7 +50,7 @@ fn compared(codes: &[Code], left: u32, right: u32) -> Answer
 
 /// The replies of a session of the script, sessions counted from 0.
 ///
-/// Takes memory for the session's replies, and for its trees and their codes.
+/// Takes memory for the session's replies, for its trees and their codes, and for the coefficients that it remembers.
 pub fn run_session_alone(
     alloc: Global,
     script: &Script,
@@ -49,10 +61,11 @@ pub fn run_session_alone(
 {
     let mut session = Session::start(alloc, script, number)?;
     let mut codes = Vec::new(alloc);
+    let mut sheet = Sheet::new(alloc);
     let mut given = Answer::Go;
     'steps: loop {
         let step = session.next(script, given)?;
-        given = answer(&mut codes, &step)?;
+        given = answer(&mut codes, &mut sheet, &step)?;
         if let Step::Done { reply } = step {
             return Ok(reply);
         }

@@ -1,11 +1,17 @@
 pub mod Names
-pub mod Keys
-pub mod Changes
 pub mod Listed
 mod TablesSeen
 mod Turns
 pub mod Sound
 mod Settled
+mod Goes
+mod Begun
+mod Keys
+mod Meant
+mod Acceptance
+mod Named
+pub mod Orders
+mod Jobs
 mod Reading
 mod Walked
 mod OrderTold

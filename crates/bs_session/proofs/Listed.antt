@@ -1,40 +1,71 @@
 -- The whole list of names and values, after an insert and after a removal: one pair more, or one less, in some order.
-use Rattle.std.proofs.Common.{◌≡◌, ℕ, List, [], ◌∷◌, Option, Some, None, Bool, true, false, cond, refl, sym, ◌∙◌, ap, subst}
-use Rattle.std.specs.BTreeMap.{insert_entry}
-use Rattle.std.specs.declared.cmp.Ordering.{Ordering}
-use Rattle.std.specs.declared.cmp.Ordering.TheVariants.{Less, Equal, Greater}
+use Rattle.std.proofs.Common.{◌≡◌, ℕ, suc, ◌+◌, ◌<◌, List, [], ◌∷◌, ◌++◌, length, get_or, take, slice_set, ◌-◌, position, Some, None, Bool, true, false, cond, refl, sym, ◌∙◌, ap, subst, arith, lt-ltb, not, inl, inr}
+use Rattle.std.proofs.lemmas.Bool.{cases_Bool}
+use Rattle.std.proofs.lemmas.List.{get_or_default}
+use Rattle.std.specs.List.{swap_remove, position_or_len}
 use Rattle.std.specs.List.Sorted.{IsPermutation}
-use Rattle.std.specs.Map.{lookup, remove_entry}
-use Rattle.std.specs.Ordering.{is_eq, match_ordering}
-use Rattle.std.proofs.lemmas.List.Sorted.{IsPermutation-refl, IsPermutation-cons, IsPermutation-trans, IsPermutation-middle}
-use Rattle.bs_session.specs.Resolved.{listed, resolved}
-use Rattle.bs_session.proofs.Keys.{same_some}
+use Rattle.std.specs.Map.{keys_of, lookup}
+use Rattle.std.specs.Option.{option_map_or}
+use Rattle.std.proofs.lemmas.List.Sorted.{IsPermutation-sym, IsPermutation-swap_remove}
+use Rattle.indexmap.specs.IndexMap.{swap_remove_entry}
+use Rattle.bs_session.specs.Names.{named}
 
--- a pair goes past another entry
-past_listed : {X : Type 0} (first : List ℕ) (value : Option X) (p : List ℕ × X) (xs ys : List (List ℕ × X)) → IsPermutation (p ∷ xs) ys → IsPermutation (p ∷ listed first value xs) (listed first value ys)
-past_listed first None p xs ys same = same
-past_listed first (Some v) p xs ys same = IsPermutation-trans _ ((first, v) ∷ p ∷ xs) _ (IsPermutation-middle (p ∷ []) (first, v) xs) (IsPermutation-cons (first, v) (p ∷ xs) ys same)
+module _ {K X : Type 0} (bytes : K → List ℕ) where
+  pub named-append : (xs ys : List (K × X)) → named bytes (xs ++ ys) ≡ named bytes xs ++ named bytes ys
+  named-append [] ys = refl
+  named-append (x ∷ xs) ys = ap (λ l. (bytes x.0, x.1) ∷ l) (named-append xs ys)
 
--- a name whose key has this value
-pub listed_first : {X : Type 0} (name : List ℕ) (found : Option X) (value : X) (rest : List (List ℕ × X)) → found ≡ Some value → IsPermutation ((name, value) ∷ rest) (listed name found rest)
-listed_first name found value rest here = subst (λ o. IsPermutation ((name, value) ∷ rest) (listed name o rest)) (sym here) (IsPermutation-refl _)
+  pub length-named : (es : List (K × X)) → length (named bytes es) ≡ length es
+  length-named [] = refl
+  length-named (e ∷ es) = ap suc (length-named es)
 
-module _ {K X : Type 0} (bytes : K → List ℕ) (find : ℕ → Option X) (key : ℕ) (value : X) (here : find key ≡ Some value) where
-  pub resolved-insert_entry : (order : K → K → Ordering) (es : List (K × ℕ)) (name : K) → lookup (λ k. is_eq (order name k)) es ≡ None → IsPermutation ((bytes name, value) ∷ resolved bytes find es) (resolved bytes find (insert_entry order es name key))
-  resolved-insert_entry order [] name free = listed_first (bytes name) (find key) value [] here
-  resolved-insert_entry order (e ∷ es) name free =
-      elim (order name e.0) as (λ o. cond (is_eq o) (Some e.1) (lookup (λ k. is_eq (order name k)) es) ≡ None → IsPermutation ((bytes name, value) ∷ resolved bytes find (e ∷ es)) (resolved bytes find (match_ordering o ((name, key) ∷ e ∷ es) ((e.0, key) ∷ es) (e ∷ insert_entry order es name key)))) [
-        | Less ↦ λ none. listed_first (bytes name) (find key) value (resolved bytes find (e ∷ es)) here
-        | Equal ↦ λ none. cc
-        | Greater ↦ λ none. past_listed (bytes e.0) (find e.1) (bytes name, value) _ _ (resolved-insert_entry order es name none)
-      ] free
+-- where a look-up finds its value
+record Place {K X : Type 0} (test : K → Bool) (es : List (K × X)) (value : X) : Type 0 where
+  within : position_or_len test (keys_of es) < length (keys_of es)
+  short : position_or_len test (keys_of es) < length es
+  key : K
+  passes : test key ≡ true
+  is : (other : K × X) → get_or es (position_or_len test (keys_of es)) other ≡ (key, value)
 
-  pub resolved-remove_entry : (test : K → Bool) (name : List ℕ) → ((k : K) → test k ≡ true → bytes k ≡ name) → (es : List (K × ℕ)) → lookup test es ≡ Some key → IsPermutation ((name, value) ∷ resolved bytes find (remove_entry test es)) (resolved bytes find es)
-  resolved-remove_entry test name is_name [] found = cc
-  resolved-remove_entry test name is_name (e ∷ es) found =
-      elim (test e.0) as (λ b. (b ≡ true → bytes e.0 ≡ name) → cond b (Some e.1) (lookup test es) ≡ Some key → IsPermutation ((name, value) ∷ resolved bytes find (cond b es (e ∷ remove_entry test es))) (resolved bytes find (e ∷ es))) [
-        | true ↦ λ named is.
-            let first = listed_first (bytes e.0) (find e.1) value (resolved bytes find es) (ap find (same_some _ _ is) ∙ here) in
-            subst (λ l. IsPermutation ((l, value) ∷ resolved bytes find es) (resolved bytes find (e ∷ es))) (named refl) first
-        | false ↦ λ named is. past_listed (bytes e.0) (find e.1) (name, value) _ _ (resolved-remove_entry test name is_name es is)
-      ] (is_name e.0) found
+later_place : {K X : Type 0} (test : K → Bool) (e : K × X) (es : List (K × X)) (value : X) → test e.0 ≡ false → Place test es value → Place test (e ∷ es) value
+later_place test e es value fails p =
+    let one : position_or_len test (keys_of (e ∷ es)) ≡ 1 + position_or_len test (keys_of es) = ap (λ b. cond (not b) (1 + position_or_len test (keys_of es)) 0) fails in
+    let next : position_or_len test (keys_of (e ∷ es)) ≡ suc (position_or_len test (keys_of es)) = omega arith in
+    record {
+      within = omega (arith, p.within);
+      short = omega (arith, p.short);
+      key = p.key;
+      passes = p.passes;
+      is = λ other. ap (λ i. get_or (e ∷ es) i other) next ∙ p.is other;
+    }
+
+first_place : {K X : Type 0} (test : K → Bool) (e : K × X) (es : List (K × X)) → test e.0 ≡ true → Place test (e ∷ es) e.1
+first_place test e es here =
+    let none : position_or_len test (keys_of (e ∷ es)) ≡ 0 = ap (λ b. cond (not b) (1 + position_or_len test (keys_of es)) 0) here in
+    record { within = omega arith; short = omega arith; key = e.0; passes = here; is = λ other. ap (λ i. get_or (e ∷ es) i other) none }
+
+place_at : {K X : Type 0} (test : K → Bool) (es : List (K × X)) (value : X) → lookup test es ≡ Some value → Place test es value
+place_at test [] value found = cc
+place_at test (e ∷ es) value found =
+    elim (cases_Bool (test e.0)) [
+      | inl here ↦
+          let is : Some e.1 ≡ Some value = sym (ap (λ b. cond b (Some e.1) (lookup test es)) here) ∙ found in
+          let same : e.1 ≡ value = cc in
+          subst (Place test (e ∷ es)) same (first_place test e es here)
+      | inr fails ↦ later_place test e es value fails (place_at test es value (sym (ap (λ b. cond b (Some e.1) (lookup test es)) fails) ∙ found))
+    ]
+
+-- an entry taken out, with the last one in its place
+swapped : {K X : Type 0} (test : K → Bool) (e : K × X) (es : List (K × X)) (value : X) (place : Place test (e ∷ es) value) → swap_remove_entry test (e ∷ es) ≡ swap_remove (e ∷ es) (position_or_len test (keys_of (e ∷ es))) (place.key, value)
+swapped test e es value place =
+    let i = position_or_len test (keys_of (e ∷ es)) in
+    let found : position test (keys_of (e ∷ es)) ≡ Some i = ap (λ b. cond b (Some i) None) (lt-ltb i (length (keys_of (e ∷ es))) place.within) in
+    ap (λ o. option_map_or (λ n. swap_remove (e ∷ es) n e) o (e ∷ es)) found
+    ∙ ap (λ x. take (length (e ∷ es) - 1) (slice_set (e ∷ es) i x)) (get_or_default (e ∷ es) (length (e ∷ es) - 1) e (place.key, value) (omega arith))
+
+pub taken_out : {K X : Type 0} (test : K → Bool) (es : List (K × X)) (value : X) → lookup test es ≡ Some value → (key : K) × (test key ≡ true) × IsPermutation ((key, value) ∷ swap_remove_entry test es) es
+taken_out test [] value found = cc
+taken_out {K} {X} test (e ∷ es) value found =
+    let place = place_at test (e ∷ es) value found in
+    let moved = IsPermutation-swap_remove (e ∷ es) (position_or_len test (keys_of (e ∷ es))) (place.key, value) place.short (sym (place.is (place.key, value))) in
+    (place.key, place.passes, IsPermutation-sym _ _ (subst (λ l. IsPermutation (e ∷ es) ((place.key, value) ∷ l)) (sym (swapped test e es value place)) moved))

@@ -6,12 +6,13 @@
 --   colours_to word       == the number of colours that the word asks for; 1 where there is no word
 --   trees_asked n k       == the order and the number of colours of a list of trees, or the error
 --   order_asked most k n  == the order up to which trees of k colours are gone over, where they are at most `most`; or the error
+--   order_shared most j k n == the same for trees of both j and k colours, which have to be the same number
 --
 -- A word that is no such number comes before a number that is too large; too many colours come before too many nodes, and
 -- these before too many trees.
 --
 -- Source: this project. The code stops reading a number beyond the limit.
-use Rattle.std.specs.Prelude.{◌≡◌, ℕ, ◌&&◌, List, Option, Some, None, Result, Ok, Err, nat_lt, if◌then◌else◌, codes, refl}
+use Rattle.std.specs.Prelude.{◌≡◌, ℕ, ◌==◌, ◌&&◌, List, Option, Some, None, Result, Ok, Err, nat_lt, if◌then◌else◌, codes, refl}
 use Rattle.std.specs.Str.Parse.{digits_value}
 use Rattle.bs_frac.specs.Text.{is_number}
 use Rattle.bs_tree.specs.declared.TheConstants.{MAX_NODES, COLOURS}
@@ -44,6 +45,11 @@ abbrev pub order_asked : ℕ → ℕ → Result ℕ NumberFault → Result ℕ E
 order_asked most k (Err NoNumber) = Err Number
 order_asked most k (Err AboveLimit) = Err TooLarge
 order_asked most k (Ok n) = few_to most k n
+
+abbrev pub order_shared : ℕ → ℕ → ℕ → Result ℕ NumberFault → Result ℕ Error
+order_shared most j k (Err NoNumber) = Err Number
+order_shared most j k (Err AboveLimit) = if j == k then Err TooLarge else Err Colours
+order_shared most j k (Ok n) = if j == k then few_to most k n else Err Colours
 
 -- both numbers, where the trees are not too many
 abbrev pub both_asked : ℕ → Result ℕ Error → Result (ℕ × ℕ) Error

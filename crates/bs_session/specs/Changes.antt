@@ -1,57 +1,77 @@
 -- What the function of a command says of the command's definition.
 --
---   known_of live        == what the names of live trees stand for
---   IsLive live tree     == some name stands for the tree
---   known_after k c      == what is known after a change
---   IsApt live c         == a name that is given is free, and one that is dropped is that of a tree
---   Carries live o old new c == the outcome o is what has been carried out: the reply stands behind the old text, or is still to be
---                           told by the answer to a question about live trees
+--   IsLive space tree    == some name stands for the tree
+--   known_after space c  == what is known after a change
+--   IsApt space c        == a name that is given is free, and one that is dropped is that of a tree; a series that is named is in the book
+--   Says space o old new c == the outcome o is the reply behind the old text, with a change
+--   Asks space o l r     == it is told by the answer to a question about two live trees
+--   Begins ts space o p w == it is told by the work w, which is sound and takes at most p turns
+--   Carries ts space o p old new w c == the outcome o is what has been carried out
 --   Refuses f o          == the fault is the error that the outcome is; want of memory is free
+--   IsBookOf ts old new  == nothing but the book may have changed: it suits the tableaux as before, and no id has changed
 --
 -- Source: this project.
-use Rattle.std.specs.Prelude.{◌≡◌, ℕ, List, ◌++◌, Option, Some, None, IsSome, option_map, Result, Ok, Err}
-use Rattle.bs_reply.specs.Lines.{same_line}
+use Rattle.std.specs.Prelude.{◌≡◌, ℕ, ◌<◌, ◌≤◌, List, ◌++◌, length, Some, None, IsSome, Result, Ok, Err}
+use Rattle.bs_tableau.specs.Table.{Table}
+use Rattle.bs_series.specs.Series.{Series}
+use Rattle.bs_series.specs.Accepted.{Suits}
+use Rattle.bs_series.specs.Expressions.{series_at, Extends}
 use Rattle.bs_session.specs.Names.{at}
-use Rattle.bs_session.specs.Known.{Known, with_tree, without_tree}
+use Rattle.bs_session.specs.Known.{Known, with_tree, without_tree, with_series}
+use Rattle.bs_session.specs.Space.{Space, known_of}
 use Rattle.bs_session.specs.Commands.{Outcome, same_reply}
+use Rattle.bs_session.specs.Works.{IsWork, whole_reply, work_left}
 use Rattle.bs_session.specs.declared.error.Fault.{Fault}
 use Rattle.bs_session.specs.declared.error.Fault.TheVariants.{Refused, Memory}
 use Rattle.bs_session.specs.declared.live.LiveTree.{LiveTree}
 use Rattle.bs_session.specs.declared.change.Change.{Change}
-use Rattle.bs_session.specs.declared.change.Change.TheVariants.{Nothing, Name, Drop}
+use Rattle.bs_session.specs.declared.change.Change.TheVariants.{Nothing, Name, Drop, Define}
 use Rattle.bs_session.specs.declared.change.Carried.{Carried}
-use Rattle.bs_session.specs.declared.change.Carried.TheVariants.{Replied, Asked}
+use Rattle.bs_session.specs.declared.change.Carried.TheVariants.{Replied, Asked, Begun}
+use Rattle.bs_session.specs.declared.work.Work.{Work}
 
-abbrev pub known_of : List (List ℕ × LiveTree) → Known
-known_of live = record { trees = λ name. option_map (λ tree. tree.code) (at name live) }
+abbrev pub IsLive : Space → LiveTree → Type 0
+IsLive space tree = (name : List ℕ) × (at name space.live ≡ Some tree)
 
-abbrev pub IsLive : List (List ℕ × LiveTree) → LiveTree → Type 0
-IsLive live tree = (name : List ℕ) × (at name live ≡ Some tree)
+abbrev pub known_after : Space → Change → Known
+known_after space Nothing = known_of space
+known_after space (Name name code) = with_tree (known_of space) name.now code
+known_after space (Drop name) = without_tree (known_of space) name.now
+known_after space (Define name id) = with_series (known_of space) name.now (series_at space.book id)
 
-abbrev pub known_after : Known → Change → Known
-known_after known Nothing = known
-known_after known (Name name code) = with_tree known name.now code
-known_after known (Drop name) = without_tree known name.now
-
-abbrev pub IsApt : List (List ℕ × LiveTree) → Change → Type 0
-IsApt live Nothing = Unit {0}
-IsApt live (Name name code) = at name.now live ≡ None
-IsApt live (Drop name) = IsSome (at name.now live)
+abbrev pub IsApt : Space → Change → Type 0
+IsApt space Nothing = Unit {0}
+IsApt space (Name name code) = at name.now space.live ≡ None
+IsApt space (Drop name) = IsSome (at name.now space.live)
+IsApt space (Define name id) = (id < length space.book) × (at name.now space.series ≡ None)
 
 -- a reply behind the old text, with a change
-abbrev pub Says : List (List ℕ × LiveTree) → Outcome → List ℕ → List ℕ → Change → Type 0
-Says live (Ok answer) old new change = (answer.0 ≡ known_after (known_of live) change) × (new ≡ old ++ answer.1) × IsApt live change
-Says live (Err error) old new change = ⊥
+abbrev pub Says : Space → Outcome → List ℕ → List ℕ → Change → Type 0
+Says space (Ok answer) old new change = (answer.0 ≡ known_after space change) × (new ≡ old ++ answer.1) × IsApt space change
+Says space (Err error) old new change = ⊥
 
 -- a reply to come, about these two trees
-abbrev pub Asks : List (List ℕ × LiveTree) → Outcome → LiveTree → LiveTree → Type 0
-Asks live outcome left right =
-    (outcome ≡ Ok (known_of live, same_reply left.code right.code)) × IsLive live left × IsLive live right
+abbrev pub Asks : Space → Outcome → LiveTree → LiveTree → Type 0
+Asks space outcome left right =
+    (outcome ≡ Ok (known_of space, same_reply left.code right.code)) × IsLive space left × IsLive space right
 
-abbrev pub Carries : List (List ℕ × LiveTree) → Outcome → List ℕ → List ℕ → Carried → Type 0
-Carries live outcome old new (Replied change) = Says live outcome old new change
-Carries live outcome old new (Asked left right) = Asks live outcome left right × (new ≡ old)
+-- a reply to come, once coefficients are worked out
+pub record Begins (tables : List Table) (space : Space) (outcome : Outcome) (most : ℕ) (w : Work) : Type 0 where
+  pub is : outcome ≡ Ok (known_of space, whole_reply tables space.book w)
+  pub work : IsWork tables space.book w
+  pub left : work_left space.book w ≤ most
+
+abbrev pub Carries : List Table → Space → Outcome → ℕ → List ℕ → List ℕ → Work → Carried → Type 0
+Carries tables space outcome most old new w (Replied change) = Says space outcome old new change
+Carries tables space outcome most old new w (Asked left right) = Asks space outcome left right × (new ≡ old)
+Carries tables space outcome most old new w Begun = Begins tables space outcome most w × (new ≡ old)
 
 abbrev pub Refuses : Fault → Outcome → Type 0
 Refuses (Refused error) outcome = outcome ≡ Err error
 Refuses (Memory cause) outcome = Unit {0}
+
+pub record IsBookOf (tables : List Table) (old new : Space) : Type 0 where
+  pub live : new.live ≡ old.live
+  pub series : new.series ≡ old.series
+  pub ids_stay : Extends old.book new.book
+  pub suits : Suits tables new.book

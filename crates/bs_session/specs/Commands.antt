@@ -14,14 +14,21 @@
 --   order_command ts k ws    == `order TABLEAU P` gives the order of a method, as far as P
 --   split_command known ws   == `split T` lists the splittings of a tree
 --   partition_command known ws == `partition T` lists its partitions
+--   series_command ts k ws   == `series NAME KIND ..` names a series: the flow, the identity or the average vector field method of so many
+--                               colours, a method, or what an operation makes of series that have names
+--   coeff_command ts k ws    == `coeff S T` gives the coefficient of a series at a tree, as it is written
+--   print_command ts k ws    == `print S P` gives its coefficients at the trees to order P
+--   equal_command ts k ws    == `equal S1 S2 P` compares two series to order P
 --   command ts known ws      == what the command of these words answers, where the tableaux ts are seen
 --
 -- The words ws of a command are those behind its first word. A name that stands for nothing comes before one that is taken.
 --
 -- Source: this project; the notions are those of the crates below (Butcher 2021; Hairer, Norsett and Wanner 1993).
 -- The code is one function a command, which writes the reply as it finds it.
-use Rattle.std.specs.Prelude.{ℕ, Bool, List, [], ◌∷◌, Option, Some, None, is_some, Result, Ok, Err, nat_lt, if◌then◌else◌}
+use Rattle.std.specs.Prelude.{ℕ, Bool, List, [], ◌∷◌, length, Option, Some, None, Result, Ok, Err, nat_lt, if◌then◌else◌}
 use Rattle.std.specs.List.{list_all}
+use Rattle.bs_frac.specs.Fraction.{Fraction}
+use Rattle.bs_frac.specs.Text.{fraction_of}
 use Rattle.bs_frac.specs.Written.{checked}
 use Rattle.bs_tree.specs.Tree.{Tree as Shape}
 use Rattle.bs_tree.specs.Isomorphic.{isomorphic}
@@ -31,19 +38,29 @@ use Rattle.bs_tree.specs.Code.{tree_of}
 use Rattle.bs_levels.specs.Levels.{tree_of_words, Refusal}
 use Rattle.bs_tableau.specs.Table.{Table}
 use Rattle.bs_tableau.specs.WrittenWeight.{written_weight}
-use Rattle.bs_reply.specs.Lines.{tree_line, drop_line, same_line, info_line, weight_line}
+use Rattle.bs_series.specs.Series.{Series, exact, identity, average, method, compose, inverse, adjoint, substitute, modified, modifying, scale, empty_value, colours_of}
+use Rattle.bs_series.specs.Value.{table_at}
+use Rattle.bs_series.specs.SeriesCode.{written_at}
+use Rattle.bs_reply.specs.Lines.{tree_line, drop_line, same_line, info_line, weight_line, series_line, coeff_line}
 use Rattle.bs_session.specs.Errors.{error_of}
 use Rattle.bs_session.specs.Names.{at}
-use Rattle.bs_session.specs.Known.{Known, Tables, with_tree, without_tree}
+use Rattle.bs_session.specs.Known.{Known, Tables, with_tree, without_tree, with_series, is_taken, plain, number_of}
 use Rattle.bs_session.specs.Verbs.{verb_of}
-use Rattle.bs_session.specs.Asked.{order_to, colours_to, trees_asked, order_asked}
+use Rattle.bs_session.specs.Asked.{order_to, colours_to, trees_asked, order_asked, order_shared}
 use Rattle.bs_session.specs.OrderConditions.{trees_reply, conditions_reply, order_reply}
 use Rattle.bs_session.specs.Items.{split_reply, partition_reply}
-use Rattle.bs_session.specs.declared.TheConstants.{MAX_CONDITIONS}
+use Rattle.bs_session.specs.Acceptance.{made_of}
+use Rattle.bs_session.specs.Operations.{operation_of}
+use Rattle.bs_session.specs.SeriesReplies.{print_reply, equal_reply}
+use Rattle.bs_session.specs.declared.TheConstants.{MAX_CONDITIONS, MAX_COEFF_ORDER}
+use Rattle.bs_session.specs.declared.number.NumberFault.{NumberFault}
+use Rattle.bs_session.specs.declared.number.NumberFault.TheVariants.{NoNumber, AboveLimit}
+use Rattle.bs_session.specs.declared.operation.Operation.{Operation}
+use Rattle.bs_session.specs.declared.operation.Operation.TheVariants.{Exact, Identity, Average, Method, Compose, Inverse, Adjoint, Substitute, Modified, Modifying, Scale}
 use Rattle.bs_session.specs.declared.verb.Verb.{Verb}
-use Rattle.bs_session.specs.declared.verb.Verb.TheVariants.{Tree, Drop, Same, Info, Weight, Trees, Conditions, Order, Split, Partition}
+use Rattle.bs_session.specs.declared.verb.Verb.TheVariants.{Tree, Drop, Same, Info, Weight, Trees, Conditions, Order, Split, Partition, Series as Series_, Coeff, Print, Equal}
 use Rattle.bs_session.specs.declared.error.Error.{Error}
-use Rattle.bs_session.specs.declared.error.Error.TheVariants.{Command, Words, Name, Taken, Colours}
+use Rattle.bs_session.specs.declared.error.Error.TheVariants.{Command, Words, Name, Taken, Number, Colours, TooLarge}
 
 abbrev pub Outcome : Type 0
 Outcome = Result (Known × List ℕ) Error
@@ -73,6 +90,18 @@ two_or_three (a ∷ b ∷ []) = Some (a, b, None)
 two_or_three (a ∷ b ∷ c ∷ []) = Some (a, b, Some c)
 two_or_three (a ∷ b ∷ c ∷ d ∷ ws) = None
 
+abbrev pub none_or_one : List (List ℕ) → Option (Option (List ℕ))
+none_or_one [] = Some None
+none_or_one (a ∷ []) = Some (Some a)
+none_or_one (a ∷ b ∷ ws) = None
+
+abbrev pub three : List (List ℕ) → Option (List ℕ × List ℕ × List ℕ)
+three [] = None
+three (a ∷ []) = None
+three (a ∷ b ∷ []) = None
+three (a ∷ b ∷ c ∷ []) = Some (a, b, c)
+three (a ∷ b ∷ c ∷ d ∷ ws) = None
+
 -- what is answered for these words, where there are so many
 abbrev pub taken : {X : Type 0} → Option X → (X → Outcome) → Outcome
 taken None answer = Err Words
@@ -95,7 +124,7 @@ tree_made known name (Err refusal) = Err (error_of refusal)
 
 abbrev pub tree_under : Known → List ℕ → List ℕ → Option (List ℕ) → Outcome
 tree_under known name levels colours =
-    if is_some (known.trees name) then Err Taken else tree_made known name (tree_of_words levels colours)
+    if is_taken known name then Err Taken else tree_made known name (tree_of_words levels colours)
 
 abbrev pub tree_command : Known → List (List ℕ) → Outcome
 tree_command known ws = taken (two_or_three ws) (λ w. tree_under known w.0 w.1 w.2)
@@ -161,6 +190,92 @@ split_command known ws = taken (only ws) (λ name. found (known.trees name) (λ 
 abbrev pub partition_command : Known → List (List ℕ) → Outcome
 partition_command known ws = taken (only ws) (λ name. found (known.trees name) (λ code. Ok (known, partition_reply code)))
 
+-- ---- series NAME KIND ..
+abbrev pub named : Known → List ℕ → Series → Outcome
+named known name s = Ok (with_series known name s, series_line name (empty_value s) (colours_of s))
+
+-- the series, where the name is free
+abbrev pub under : Known → List ℕ → Result Series Error → Outcome
+under known name made = if is_taken known name then Err Taken else asked made (named known name)
+
+abbrev pub coloured : (ℕ → Series) → Result ℕ NumberFault → Result Series Error
+coloured make (Err NoNumber) = Err Number
+coloured make (Err AboveLimit) = Err Colours
+coloured make (Ok k) = Ok (make k)
+
+abbrev pub scaled : List Table → Series → Option Fraction → Result Series Error
+scaled tables s None = Err Number
+scaled tables s (Some c) = made_of tables (scale s c)
+
+-- a series of so many colours
+abbrev pub of_colours : Known → List ℕ → List (List ℕ) → (ℕ → Series) → Outcome
+of_colours known name ws make = taken (none_or_one ws) (λ w. under known name (coloured make (colours_to w)))
+
+-- the series of a tableau
+abbrev pub of_tableau : Tables → Known → List ℕ → List (List ℕ) → Outcome
+of_tableau tables known name ws =
+    taken (only ws) (λ w. found (number_of w tables) (λ n. under known name (Ok (method n (table_at (plain tables) n).colours))))
+
+-- what an operation makes of one series, or of two
+abbrev pub of_one : Tables → Known → List ℕ → List (List ℕ) → (Series → Series) → Outcome
+of_one tables known name ws make =
+    taken (only ws) (λ w. found (known.series w) (λ s. under known name (made_of (plain tables) (make s))))
+
+abbrev pub of_two : Tables → Known → List ℕ → List (List ℕ) → (Series → Series → Series) → Outcome
+of_two tables known name ws make =
+    taken (two ws) (λ w. found (known.series w.0) (λ s. found (known.series w.1) (λ t. under known name (made_of (plain tables) (make s t)))))
+
+abbrev pub of_factor : Tables → Known → List ℕ → List (List ℕ) → Outcome
+of_factor tables known name ws =
+    taken (two ws) (λ w. found (known.series w.0) (λ s. under known name (scaled (plain tables) s (fraction_of w.1))))
+
+abbrev pub made_by : Tables → Known → List ℕ → Option Operation → List (List ℕ) → Outcome
+made_by tables known name None ws = Err Command
+made_by tables known name (Some Exact) ws = of_colours known name ws exact
+made_by tables known name (Some Identity) ws = of_colours known name ws identity
+made_by tables known name (Some Average) ws = of_colours known name ws average
+made_by tables known name (Some Method) ws = of_tableau tables known name ws
+made_by tables known name (Some Compose) ws = of_two tables known name ws compose
+made_by tables known name (Some Inverse) ws = of_one tables known name ws inverse
+made_by tables known name (Some Adjoint) ws = of_one tables known name ws adjoint
+made_by tables known name (Some Substitute) ws = of_two tables known name ws substitute
+made_by tables known name (Some Modified) ws = of_one tables known name ws modified
+made_by tables known name (Some Modifying) ws = of_one tables known name ws modifying
+made_by tables known name (Some Scale) ws = of_factor tables known name ws
+
+abbrev pub series_command : Tables → Known → List (List ℕ) → Outcome
+series_command tables known [] = Err Words
+series_command tables known (name ∷ []) = Err Words
+series_command tables known (name ∷ kind ∷ ws) = made_by tables known name (operation_of kind) ws
+
+-- ---- coeff S T
+abbrev pub coeff_of : Tables → Known → Series → List (ℕ × ℕ) → Outcome
+coeff_of tables known s code =
+    if has_colours (colours_of s) code
+    then (if nat_lt MAX_COEFF_ORDER (length code) then Err TooLarge else Ok (known, coeff_line (written_at (plain tables) s code)))
+    else Err Colours
+
+abbrev pub coeff_command : Tables → Known → List (List ℕ) → Outcome
+coeff_command tables known ws =
+    taken (two ws) (λ w. found (known.series w.0) (λ s. found (known.trees w.1) (λ code. coeff_of tables known s code)))
+
+-- ---- print S P
+abbrev pub print_of : Tables → Known → List ℕ → Series → Outcome
+print_of tables known order s =
+    asked (order_asked MAX_CONDITIONS (colours_of s) (order_to order)) (λ p. Ok (known, print_reply (plain tables) s p))
+
+abbrev pub print_command : Tables → Known → List (List ℕ) → Outcome
+print_command tables known ws = taken (two ws) (λ w. found (known.series w.0) (λ s. print_of tables known w.1 s))
+
+-- ---- equal S1 S2 P
+abbrev pub equal_of : Tables → Known → List ℕ → Series → Series → Outcome
+equal_of tables known order a b =
+    asked (order_shared MAX_CONDITIONS (colours_of a) (colours_of b) (order_to order)) (λ p. Ok (known, equal_reply (plain tables) a b p))
+
+abbrev pub equal_command : Tables → Known → List (List ℕ) → Outcome
+equal_command tables known ws =
+    taken (three ws) (λ w. found (known.series w.0) (λ a. found (known.series w.1) (λ b. equal_of tables known w.2 a b)))
+
 -- ---- any command
 abbrev pub command_of : Tables → Known → Option Verb → List (List ℕ) → Outcome
 command_of tables known None ws = Err Command
@@ -174,6 +289,10 @@ command_of tables known (Some Conditions) ws = conditions_command tables known w
 command_of tables known (Some Order) ws = order_command tables known ws
 command_of tables known (Some Split) ws = split_command known ws
 command_of tables known (Some Partition) ws = partition_command known ws
+command_of tables known (Some Series_) ws = series_command tables known ws
+command_of tables known (Some Coeff) ws = coeff_command tables known ws
+command_of tables known (Some Print) ws = print_command tables known ws
+command_of tables known (Some Equal) ws = equal_command tables known ws
 
 unfoldable pub command : Tables → Known → List (List ℕ) → Outcome
 command tables known [] = Err Command

@@ -6,7 +6,7 @@
 use Rattle.std.specs.Prelude.{ℕ, List, Option, Some, None, if◌then◌else◌, codes}
 use Rattle.std.specs.Str.{bytes_eq}
 use Rattle.bs_session.specs.declared.verb.Verb.{Verb}
-use Rattle.bs_session.specs.declared.verb.Verb.TheVariants.{Tree, Drop, Same, Info, Weight, Trees, Conditions, Order, Split, Partition}
+use Rattle.bs_session.specs.declared.verb.Verb.TheVariants.{Tree, Drop, Same, Info, Weight, Trees, Conditions, Order, Split, Partition, Series, Coeff, Print, Equal}
 
 abbrev pub verb_of : List ℕ → Option Verb
 verb_of word =
@@ -20,4 +20,8 @@ verb_of word =
     else (if bytes_eq word (codes "order") then Some Order
     else (if bytes_eq word (codes "split") then Some Split
     else (if bytes_eq word (codes "partition") then Some Partition
-    else None)))))))))
+    else (if bytes_eq word (codes "series") then Some Series
+    else (if bytes_eq word (codes "coeff") then Some Coeff
+    else (if bytes_eq word (codes "print") then Some Print
+    else (if bytes_eq word (codes "equal") then Some Equal
+    else None)))))))))))))

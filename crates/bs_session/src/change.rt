@@ -1,6 +1,7 @@
 //! What a command comes to, once its errors are excluded.
 
 use crate::live::LiveTree;
+use bs_series::SeriesId;
 use bs_tree::Code;
 
 /// What an accepted command changes.
@@ -12,6 +13,8 @@ pub(crate) enum Change<'a> {
     Name { name: &'a [u8], code: Code },
     /// The name is free from now on.
     Drop { name: &'a [u8] },
+    /// The name stands for this series from now on.
+    Define { name: &'a [u8], series: SeriesId },
 }
 
 /// How far a command was carried out.
@@ -21,4 +24,6 @@ pub(crate) enum Carried<'a> {
     Replied { change: Change<'a> },
     /// The reply wants to know whether two trees are isomorphic.
     Asked { left: LiveTree, right: LiveTree },
+    /// The reply wants coefficients, and the work on it is begun.
+    Begun,
 }

@@ -1,7 +1,8 @@
 //! The commands, one function each: the words behind the first one become a reply behind the text so far, with a change or a
 //! question; or the command is refused, and the text is as it was.
 //!
-//! A new command is a verb, an arm of `command`, a function here, a definition in `specs/Commands.antt` and a reply line.
+//! A new command is a verb, an arm of `command`, a function here, a definition in `specs/Commands.antt` and a reply line. Those about
+//! series have modules of their own.
 
 ghost use Rattle.std.specs.Prelude.{◌≡◌, ◌<◌, All, IsTrue, IfOk, IfErr, OnErr};
 ghost use Rattle.bs_levels.specs.Faults.{refusal_of};
@@ -9,41 +10,45 @@ ghost use Rattle.bs_reply.specs.Lines.{line_text};
 ghost use Rattle.bs_tableau.specs.Words.{words};
 ghost use Rattle.bs_session.specs.Names.{at};
 ghost use Rattle.bs_session.specs.Commands.{command, tree_command, drop_command, same_command, info_command, info_reply, weight_command, has_colours, trees_command, conditions_command, order_command, split_command, partition_command};
-ghost use Rattle.bs_session.specs.Changes.{known_of, Carries, Asks, Refuses};
+ghost use Rattle.bs_series.specs.Accepted.{Suits};
+ghost use Rattle.bs_session.specs.Known.{plain};
+ghost use Rattle.bs_session.specs.Space.{known_of};
+ghost use Rattle.bs_session.specs.Toil.{toil_of};
+ghost use Rattle.bs_session.specs.Changes.{Says, Carries, Asks, Refuses, IsBookOf};
+ghost use Rattle.bs_session.specs.declared.change.Carried.TheVariants.{Replied, Begun};
 ghost use Rattle.bs_session.specs.Errors.{error_of};
 
 use crate::MAX_CONDITIONS;
 use crate::change::{Carried, Change};
+use crate::coefficients::{coeff, equal, print};
 use crate::conditions::{write_conditions, write_order};
 use crate::error::{Error, Fault};
 use crate::items::{write_partitions, write_splits};
-use crate::live::{LiveTree, LiveTrees};
+use crate::live::LiveTree;
+use crate::namespace::Namespace;
 use crate::number::order_asked;
 use crate::seen::Seen;
+use crate::series::series;
 use crate::table_weights::TableWeights;
 use crate::trees::{trees_asked, write_trees};
 use crate::verb::Verb;
 use crate::words::{one_or_two, only, two, two_or_three};
+use crate::work::Work;
 use bs_levels::{LevelRefusal, read_code};
 use bs_reply::{Line, write_line};
 use bs_tableau::Words;
 use bs_tree::Code;
 
-/// A command that changes nothing was carried out.
-const ANSWERED: Carried<'static> = Carried::Replied {
-    change: Change::Nothing,
-};
-
 /// `tree NAME LEVELS [COLOURS]`
-fn tree<'a>(live: &LiveTrees, words: Words<'a>, out: &mut Vec<u8>) -> Result<Carried<'a>, Fault>
-    ensures carried { IfOk result (λ carried. Carries live.now (tree_command (known_of live.now) words.entry) out.old.items out.new.items carried) }
-    ensures refused { IfErr result (λ fault. Refuses fault (tree_command (known_of live.now) words.entry)) }
+fn tree<'a>(names: &Namespace, words: Words<'a>, out: &mut Vec<u8>) -> Result<Change<'a>, Fault>
+    ensures says { IfOk result (λ change. Says names.now (tree_command (known_of names.now) words.entry) out.old.items out.new.items change) }
+    ensures refused { IfErr result (λ fault. Refuses fault (tree_command (known_of names.now) words.entry)) }
     ensures unwritten { OnErr result (out.new.items ≡ out.old.items) }
 {
     let Some((name, levels, colours)) = two_or_three(words) else {
         return Err(Fault::Refused(Error::Words));
     };
-    if live.find(name).is_some() {
+    if names.is_taken(name) {
         return Err(Fault::Refused(Error::Taken));
     }
     let code = match read_code(levels, colours) {
@@ -51,9 +56,7 @@ fn tree<'a>(live: &LiveTrees, words: Words<'a>, out: &mut Vec<u8>) -> Result<Car
         Err(refusal) => return Err(Fault::Refused(error_of(refusal))),
     };
     write_line(out, &Line::Tree { name, code })?;
-    Ok(Carried::Replied {
-        change: Change::Name { name, code },
-    })
+    Ok(Change::Name { name, code })
 }
 
 fn error_of(refusal: LevelRefusal) -> Error
@@ -67,51 +70,49 @@ fn error_of(refusal: LevelRefusal) -> Error
 }
 
 /// `drop NAME`
-fn drop<'a>(live: &LiveTrees, words: Words<'a>, out: &mut Vec<u8>) -> Result<Carried<'a>, Fault>
-    ensures carried { IfOk result (λ carried. Carries live.now (drop_command (known_of live.now) words.entry) out.old.items out.new.items carried) }
-    ensures refused { IfErr result (λ fault. Refuses fault (drop_command (known_of live.now) words.entry)) }
+fn drop<'a>(names: &Namespace, words: Words<'a>, out: &mut Vec<u8>) -> Result<Change<'a>, Fault>
+    ensures says { IfOk result (λ change. Says names.now (drop_command (known_of names.now) words.entry) out.old.items out.new.items change) }
+    ensures refused { IfErr result (λ fault. Refuses fault (drop_command (known_of names.now) words.entry)) }
     ensures unwritten { OnErr result (out.new.items ≡ out.old.items) }
 {
     let Some(name) = only(words) else {
         return Err(Fault::Refused(Error::Words));
     };
-    if live.find(name).is_none() {
+    if names.tree(name).is_none() {
         return Err(Fault::Refused(Error::Name));
     }
     write_line(out, &Line::Drop { name })?;
-    Ok(Carried::Replied {
-        change: Change::Drop { name },
-    })
+    Ok(Change::Drop { name })
 }
 
 /// `same A B`
-fn same(live: &LiveTrees, words: Words<'_>) -> Result<(LiveTree, LiveTree), Fault>
-    ensures asks { IfOk result (λ pair. Asks live.now (same_command (known_of live.now) words.entry) pair.0 pair.1) }
-    ensures refused { IfErr result (λ fault. Refuses fault (same_command (known_of live.now) words.entry)) }
+fn same(names: &Namespace, words: Words<'_>) -> Result<(LiveTree, LiveTree), Fault>
+    ensures asks { IfOk result (λ pair. Asks names.now (same_command (known_of names.now) words.entry) pair.0 pair.1) }
+    ensures refused { IfErr result (λ fault. Refuses fault (same_command (known_of names.now) words.entry)) }
 {
     let Some((left, right)) = two(words) else {
         return Err(Fault::Refused(Error::Words));
     };
-    match (live.find(left), live.find(right)) {
+    match (names.tree(left), names.tree(right)) {
         (Some(left), Some(right)) => Ok((left, right)),
         _ => Err(Fault::Refused(Error::Name)),
     }
 }
 
 /// `info T`
-fn info<'a>(live: &LiveTrees, words: Words<'a>, out: &mut Vec<u8>) -> Result<Carried<'a>, Fault>
-    ensures carried { IfOk result (λ carried. Carries live.now (info_command (known_of live.now) words.entry) out.old.items out.new.items carried) }
-    ensures refused { IfErr result (λ fault. Refuses fault (info_command (known_of live.now) words.entry)) }
+fn info<'a>(names: &Namespace, words: Words<'a>, out: &mut Vec<u8>) -> Result<Change<'a>, Fault>
+    ensures says { IfOk result (λ change. Says names.now (info_command (known_of names.now) words.entry) out.old.items out.new.items change) }
+    ensures refused { IfErr result (λ fault. Refuses fault (info_command (known_of names.now) words.entry)) }
     ensures unwritten { OnErr result (out.new.items ≡ out.old.items) }
 {
     let Some(name) = only(words) else {
         return Err(Fault::Refused(Error::Words));
     };
-    let Some(tree) = live.find(name) else {
+    let Some(tree) = names.tree(name) else {
         return Err(Fault::Refused(Error::Name));
     };
     write_line(out, &info_of(tree.code))?;
-    Ok(ANSWERED)
+    Ok(Change::Nothing)
 }
 
 /// The line with the numbers of a tree.
@@ -130,18 +131,18 @@ fn info_of(code: Code) -> Line<'static>
 fn weight<'a>(
     tables: &Seen<'_>,
     weights: &mut TableWeights,
-    live: &LiveTrees,
+    names: &Namespace,
     words: Words<'a>,
     out: &mut Vec<u8>,
-) -> Result<Carried<'a>, Fault>
-    ensures carried { IfOk result (λ carried. Carries live.now (weight_command tables.now (known_of live.now) words.entry) out.old.items out.new.items carried) }
-    ensures refused { IfErr result (λ fault. Refuses fault (weight_command tables.now (known_of live.now) words.entry)) }
+) -> Result<Change<'a>, Fault>
+    ensures says { IfOk result (λ change. Says names.now (weight_command tables.now (known_of names.now) words.entry) out.old.items out.new.items change) }
+    ensures refused { IfErr result (λ fault. Refuses fault (weight_command tables.now (known_of names.now) words.entry)) }
     ensures unwritten { OnErr result (out.new.items ≡ out.old.items) }
 {
     let Some((table, name)) = two(words) else {
         return Err(Fault::Refused(Error::Words));
     };
-    let (Some((number, table)), Some(tree)) = (tables.find(table), live.find(name)) else {
+    let (Some((number, table)), Some(tree)) = (tables.find(table), names.tree(name)) else {
         return Err(Fault::Refused(Error::Name));
     };
     if !has_colours(table.colours(), &tree.code) {
@@ -149,11 +150,11 @@ fn weight<'a>(
     }
     let coef = weights.over(number)?.weight(table, &tree.code);
     write_line(out, &Line::Weight { coef })?;
-    Ok(ANSWERED)
+    Ok(Change::Nothing)
 }
 
 /// Whether each colour of a tree is one of so many.
-fn has_colours(colours: usize, code: &Code) -> bool
+pub(crate) fn has_colours(colours: usize, code: &Code) -> bool
     ensures value { result ≡ has_colours colours code.now }
     ensures each { IsTrue result → All (λ pair. pair.1 < colours) code.now }
 {
@@ -163,9 +164,9 @@ fn has_colours(colours: usize, code: &Code) -> bool
 }
 
 /// `trees P [K]`
-fn trees<'a>(live: &LiveTrees, words: Words<'a>, out: &mut Vec<u8>) -> Result<Carried<'a>, Fault>
-    ensures carried { IfOk result (λ carried. Carries live.now (trees_command (known_of live.now) words.entry) out.old.items out.new.items carried) }
-    ensures refused { IfErr result (λ fault. Refuses fault (trees_command (known_of live.now) words.entry)) }
+fn trees<'a>(names: &Namespace, words: Words<'a>, out: &mut Vec<u8>) -> Result<Change<'a>, Fault>
+    ensures says { IfOk result (λ change. Says names.now (trees_command (known_of names.now) words.entry) out.old.items out.new.items change) }
+    ensures refused { IfErr result (λ fault. Refuses fault (trees_command (known_of names.now) words.entry)) }
     ensures unwritten { OnErr result (out.new.items ≡ out.old.items) }
 {
     let Some((order, colours)) = one_or_two(words) else {
@@ -175,19 +176,19 @@ fn trees<'a>(live: &LiveTrees, words: Words<'a>, out: &mut Vec<u8>) -> Result<Ca
         Ok(trees) => write_trees(out, trees)?,
         Err(error) => return Err(Fault::Refused(error)),
     }
-    Ok(ANSWERED)
+    Ok(Change::Nothing)
 }
 
 /// `conditions TABLEAU P`
 fn conditions<'a>(
     tables: &Seen<'_>,
     weights: &mut TableWeights,
-    live: &LiveTrees,
+    names: &Namespace,
     words: Words<'a>,
     out: &mut Vec<u8>,
-) -> Result<Carried<'a>, Fault>
-    ensures carried { IfOk result (λ carried. Carries live.now (conditions_command tables.now (known_of live.now) words.entry) out.old.items out.new.items carried) }
-    ensures refused { IfErr result (λ fault. Refuses fault (conditions_command tables.now (known_of live.now) words.entry)) }
+) -> Result<Change<'a>, Fault>
+    ensures says { IfOk result (λ change. Says names.now (conditions_command tables.now (known_of names.now) words.entry) out.old.items out.new.items change) }
+    ensures refused { IfErr result (λ fault. Refuses fault (conditions_command tables.now (known_of names.now) words.entry)) }
     ensures unwritten { OnErr result (out.new.items ≡ out.old.items) }
 {
     let Some((table, order)) = two(words) else {
@@ -200,19 +201,19 @@ fn conditions<'a>(
         Ok(order) => write_conditions(out, weights.over(number)?, table, order)?,
         Err(error) => return Err(Fault::Refused(error)),
     }
-    Ok(ANSWERED)
+    Ok(Change::Nothing)
 }
 
 /// `order TABLEAU P`
 fn order<'a>(
     tables: &Seen<'_>,
     weights: &mut TableWeights,
-    live: &LiveTrees,
+    names: &Namespace,
     words: Words<'a>,
     out: &mut Vec<u8>,
-) -> Result<Carried<'a>, Fault>
-    ensures carried { IfOk result (λ carried. Carries live.now (order_command tables.now (known_of live.now) words.entry) out.old.items out.new.items carried) }
-    ensures refused { IfErr result (λ fault. Refuses fault (order_command tables.now (known_of live.now) words.entry)) }
+) -> Result<Change<'a>, Fault>
+    ensures says { IfOk result (λ change. Says names.now (order_command tables.now (known_of names.now) words.entry) out.old.items out.new.items change) }
+    ensures refused { IfErr result (λ fault. Refuses fault (order_command tables.now (known_of names.now) words.entry)) }
     ensures unwritten { OnErr result (out.new.items ≡ out.old.items) }
 {
     let Some((table, order)) = two(words) else {
@@ -225,76 +226,122 @@ fn order<'a>(
         Ok(order) => write_order(out, weights.over(number)?, table, order)?,
         Err(error) => return Err(Fault::Refused(error)),
     }
-    Ok(ANSWERED)
+    Ok(Change::Nothing)
 }
 
 /// `split T`
-fn split<'a>(live: &LiveTrees, words: Words<'a>, out: &mut Vec<u8>) -> Result<Carried<'a>, Fault>
-    ensures carried { IfOk result (λ carried. Carries live.now (split_command (known_of live.now) words.entry) out.old.items out.new.items carried) }
-    ensures refused { IfErr result (λ fault. Refuses fault (split_command (known_of live.now) words.entry)) }
+fn split<'a>(names: &Namespace, words: Words<'a>, out: &mut Vec<u8>) -> Result<Change<'a>, Fault>
+    ensures says { IfOk result (λ change. Says names.now (split_command (known_of names.now) words.entry) out.old.items out.new.items change) }
+    ensures refused { IfErr result (λ fault. Refuses fault (split_command (known_of names.now) words.entry)) }
     ensures unwritten { OnErr result (out.new.items ≡ out.old.items) }
 {
     let Some(name) = only(words) else {
         return Err(Fault::Refused(Error::Words));
     };
-    let Some(tree) = live.find(name) else {
+    let Some(tree) = names.tree(name) else {
         return Err(Fault::Refused(Error::Name));
     };
     write_splits(out, tree.code)?;
-    Ok(ANSWERED)
+    Ok(Change::Nothing)
 }
 
 /// `partition T`
 fn partition<'a>(
-    live: &LiveTrees,
+    names: &Namespace,
     words: Words<'a>,
     out: &mut Vec<u8>,
-) -> Result<Carried<'a>, Fault>
-    ensures carried { IfOk result (λ carried. Carries live.now (partition_command (known_of live.now) words.entry) out.old.items out.new.items carried) }
-    ensures refused { IfErr result (λ fault. Refuses fault (partition_command (known_of live.now) words.entry)) }
+) -> Result<Change<'a>, Fault>
+    ensures says { IfOk result (λ change. Says names.now (partition_command (known_of names.now) words.entry) out.old.items out.new.items change) }
+    ensures refused { IfErr result (λ fault. Refuses fault (partition_command (known_of names.now) words.entry)) }
     ensures unwritten { OnErr result (out.new.items ≡ out.old.items) }
 {
     let Some(name) = only(words) else {
         return Err(Fault::Refused(Error::Words));
     };
-    let Some(tree) = live.find(name) else {
+    let Some(tree) = names.tree(name) else {
         return Err(Fault::Refused(Error::Name));
     };
     write_partitions(out, tree.code)?;
-    Ok(ANSWERED)
+    Ok(Change::Nothing)
 }
 
-/// The command of a line.
-#[tactic(auto, unfolding(crate::specs::Commands::command))]
+/// The command of a line. Where it wants coefficients, the work on its reply is begun.
+#[tactic(auto, unfolding(crate::specs::Commands::command, crate::specs::Toil::toil_of))]
 pub(crate) fn command<'a>(
     tables: &Seen<'_>,
     weights: &mut TableWeights,
-    live: &LiveTrees,
+    names: &mut Namespace,
     line: &'a [u8],
     out: &mut Vec<u8>,
+    work: &mut Work,
 ) -> Result<Carried<'a>, Fault>
-    ensures carried { IfOk result (λ carried. Carries live.now (command tables.now (known_of live.now) (words line.now)) out.old.items out.new.items carried) }
-    ensures refused { IfErr result (λ fault. Refuses fault (command tables.now (known_of live.now) (words line.now))) }
+    requires suits { Suits (plain tables.now) names.old.book }
+    ensures carried { IfOk result (λ carried. Carries (plain tables.now) names.new (command tables.now (known_of names.old) (words line.now)) (toil_of (known_of names.old) (words line.now)) out.old.items out.new.items work.new carried) }
+    ensures refused { IfErr result (λ fault. Refuses fault (command tables.now (known_of names.old) (words line.now))) }
     ensures unwritten { OnErr result (out.new.items ≡ out.old.items) }
+    ensures book { IsBookOf (plain tables.now) names.old names.new }
 {
     let mut words = Words::new(line);
     let Some(first) = words.next() else {
         return Err(Fault::Refused(Error::Command));
     };
     match Verb::read(first) {
-        Some(Verb::Tree) => tree(live, words, out),
-        Some(Verb::Drop) => drop(live, words, out),
-        Some(Verb::Same) => match same(live, words) {
+        Some(Verb::Tree) => match tree(names, words, out) {
+            Ok(change) => Ok(Carried::Replied { change }),
+            Err(fault) => Err(fault),
+        },
+        Some(Verb::Drop) => match drop(names, words, out) {
+            Ok(change) => Ok(Carried::Replied { change }),
+            Err(fault) => Err(fault),
+        },
+        Some(Verb::Same) => match same(names, words) {
             Ok((left, right)) => Ok(Carried::Asked { left, right }),
             Err(fault) => Err(fault),
         },
-        Some(Verb::Info) => info(live, words, out),
-        Some(Verb::Weight) => weight(tables, weights, live, words, out),
-        Some(Verb::Trees) => trees(live, words, out),
-        Some(Verb::Conditions) => conditions(tables, weights, live, words, out),
-        Some(Verb::Order) => order(tables, weights, live, words, out),
-        Some(Verb::Split) => split(live, words, out),
-        Some(Verb::Partition) => partition(live, words, out),
+        Some(Verb::Info) => match info(names, words, out) {
+            Ok(change) => Ok(Carried::Replied { change }),
+            Err(fault) => Err(fault),
+        },
+        Some(Verb::Weight) => match weight(tables, weights, names, words, out) {
+            Ok(change) => Ok(Carried::Replied { change }),
+            Err(fault) => Err(fault),
+        },
+        Some(Verb::Trees) => match trees(names, words, out) {
+            Ok(change) => Ok(Carried::Replied { change }),
+            Err(fault) => Err(fault),
+        },
+        Some(Verb::Conditions) => match conditions(tables, weights, names, words, out) {
+            Ok(change) => Ok(Carried::Replied { change }),
+            Err(fault) => Err(fault),
+        },
+        Some(Verb::Order) => match order(tables, weights, names, words, out) {
+            Ok(change) => Ok(Carried::Replied { change }),
+            Err(fault) => Err(fault),
+        },
+        Some(Verb::Split) => match split(names, words, out) {
+            Ok(change) => Ok(Carried::Replied { change }),
+            Err(fault) => Err(fault),
+        },
+        Some(Verb::Partition) => match partition(names, words, out) {
+            Ok(change) => Ok(Carried::Replied { change }),
+            Err(fault) => Err(fault),
+        },
+        Some(Verb::Series) => match series(tables, names, words, out) {
+            Ok(change) => Ok(Carried::Replied { change }),
+            Err(fault) => Err(fault),
+        },
+        Some(Verb::Coeff) => match coeff(names, words, work) {
+            Ok(()) => Ok(Carried::Begun),
+            Err(fault) => Err(fault),
+        },
+        Some(Verb::Print) => match print(names, words, work) {
+            Ok(()) => Ok(Carried::Begun),
+            Err(fault) => Err(fault),
+        },
+        Some(Verb::Equal) => match equal(names, words, work) {
+            Ok(()) => Ok(Carried::Begun),
+            Err(fault) => Err(fault),
+        },
         None => Err(Fault::Refused(Error::Command)),
     }
 }

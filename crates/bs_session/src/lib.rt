@@ -4,7 +4,9 @@
 //! A contract sees a `Session` as its `State`. What a session replies is `session_replies` of `specs/Replies.antt`.
 #![tactic(auto)]
 
+mod asked;
 mod change;
+mod coefficients;
 mod commands;
 mod conditions;
 mod error;
@@ -17,16 +19,24 @@ mod list_tests;
 mod live;
 #[cfg(test)]
 mod live_tests;
+mod namespace;
 mod number;
+mod operation;
 mod seen;
+mod series;
+#[cfg(test)]
+mod series_tests;
 mod session;
 mod step;
 mod table_weights;
+mod task;
 #[cfg(test)]
 mod tests;
 mod trees;
+mod up_to;
 mod verb;
 mod words;
+mod work;
 
 pub use error::Error;
 pub use live::LiveTree;
@@ -36,5 +46,8 @@ pub use step::{Answer, Step};
 /// The most bytes that the accepted replies of a session may have.
 pub const MAX_REPLIES: usize = 8_388_608;
 
-/// The most trees of a list of order conditions.
+/// The most trees of a list of order conditions, of a list of coefficients, and of a comparison of series.
 pub const MAX_CONDITIONS: u64 = 2048;
+
+/// The largest order of a tree at which one coefficient is asked for.
+pub const MAX_COEFF_ORDER: usize = 12;

@@ -2,13 +2,7 @@
 //!
 //! Orders are those of the literature: 4 of the classical Runge-Kutta method, 5 of the pair of Dormand and Prince.
 
-use crate::commands::command;
-use crate::error::Fault;
-use crate::live::LiveTrees;
-use crate::seen::Seen;
-use crate::table_weights::TableWeights;
-use bs_reply::{Line, write_line};
-use bs_script::read;
+use crate::tests::replies;
 use std::alloc::Global;
 use std::test::Fail;
 
@@ -65,30 +59,9 @@ b 170141183460469231731687303715884105727/2 -17014118346046923173168730371588410
 end
 ";
 
-/// The replies of commands one after another, where all methods are seen; an error line for a refused one.
-fn replies(alloc: Global, lines: &[&str]) -> Result<Vec<u8>, Fail> {
-    let Ok(script) = read(alloc, METHODS) else {
-        return Err("the methods are refused")?;
-    };
-    let tables = Seen::new(&script, script.tables().len());
-    let mut weights = TableWeights::new(alloc);
-    let live = LiveTrees::new(alloc);
-    let mut out = Vec::new(alloc);
-    for line in lines {
-        match command(&tables, &mut weights, &live, line.as_bytes(), &mut out) {
-            Ok(_) => {}
-            Err(Fault::Refused(error)) => {
-                let number = error.number();
-                write_line(&mut out, &Line::Error { number })?;
-            }
-            Err(Fault::Memory(cause)) => return Err(cause)?,
-        }
-    }
-    Ok(out)
-}
-
+/// Whether these commands, where all methods are seen, have this text as their replies.
 fn says(alloc: Global, lines: &[&str], text: &[u8]) -> Result<bool, Fail> {
-    Ok(replies(alloc, lines)?.as_slice() == text)
+    Ok(replies(alloc, METHODS, lines)?.as_slice() == text)
 }
 
 #[test]
@@ -103,7 +76,7 @@ fn trees_of_an_order(rt: HostRuntime) -> Result<(), Fail> {
 /// 4766 trees have 12 nodes, and those of 1 to 12 nodes are 7813.
 #[test]
 fn many_trees(rt: HostRuntime) -> Result<(), Fail> {
-    let text = replies(rt.alloc(), &["trees 12"])?;
+    let text = replies(rt.alloc(), METHODS, &["trees 12"])?;
     assert!(rt; text.starts_with(b"trees 4766\n1,2,3,4,5,6,7,8,9,10,11,12\n"));
     assert!(rt; text.ends_with(b"\n1,2,2,2,2,2,2,2,2,2,2,2\n"));
     let count = text.iter().filter(|byte| **byte == b'\n').count();
@@ -185,9 +158,9 @@ fn conditions_with_overflows(rt: HostRuntime) -> Result<(), Fail> {
 /// Of one colour 1205 trees have 1 to 10 nodes, and 3047 have 1 to 11; of two colours 1202 have 1 to 6, and 5318 have 1 to 7.
 #[test]
 fn conditions_up_to_the_limit(rt: HostRuntime) -> Result<(), Fail> {
-    let text = replies(rt.alloc(), &["conditions big 10"])?;
+    let text = replies(rt.alloc(), METHODS, &["conditions big 10"])?;
     assert!(rt; text.starts_with(b"conditions 1205\n1 "));
-    let text = replies(rt.alloc(), &["conditions imex 6"])?;
+    let text = replies(rt.alloc(), METHODS, &["conditions imex 6"])?;
     assert!(rt; text.starts_with(b"conditions 1202\n1:1 1 1 yes\n"));
     assert!(rt; text.ends_with(b"\n1,2,2,2,2,2 1 1/6 no\n"));
     let lines = [

@@ -1,14 +1,13 @@
 //! The trees that a session has named.
 //!
 //! Contracts see `LiveTrees` as a list of names and trees, each name once; `at name` of it is the tree of a name.
-//! Only `insert` takes memory. A call goes down one search tree of names, and then to one place of a table.
+//! Only `insert` takes memory. A call finds its name by the name's hash.
 ghost use Rattle.std.specs.Prelude.{◌≡◌, ◌+◌, ℕ, List, [], ◌∷◌, length, Some, None, IsPermutation, OnOk, OnErr, OnSome, IfSome, IfNone, MatchOption};
 ghost use Rattle.bs_session.specs.Names.{at, Sets};
 
 use bs_tree::Code;
-use slab::Slab;
+use indexmap::IndexMap;
 use std::alloc::{AllocError, Global};
-use std::collections::BTreeMap;
 use std::marker::Model;
 
 /// A tree that a session has named: its number, and its code.
@@ -22,21 +21,17 @@ pub struct LiveTree {
 #[derive(Drop)]
 pub struct LiveTrees {
     alloc: Global,
-    keys: BTreeMap<Vec<u8>, usize>,
-    trees: Slab<LiveTree>,
+    trees: IndexMap<Vec<u8>, LiveTree>,
 }
 
 impl Model for LiveTrees {
     ghost use Rattle.std.specs.Prelude.{ℕ, List};
-    ghost use Rattle.slab.specs.Slab.{get};
-    ghost use Rattle.bs_session.specs.Resolved.{resolved, IsSound};
+    ghost use Rattle.bs_session.specs.Names.{named};
     ghost use Rattle.bs_session.specs.declared.live.LiveTree.{LiveTree};
 
     ghost Value = { List (List ℕ × LiveTree) };
 
-    ghost view = { λ a. resolved (λ k. k.items) (get a.trees) a.keys.entries };
-
-    ghost invariant = { λ a. IsSound a.keys.entries a.trees };
+    ghost view = { λ a. named (λ k. k.items) a.trees.entries };
 }
 
 impl LiveTrees {
@@ -46,8 +41,7 @@ impl LiveTrees {
     {
         LiveTrees {
             alloc,
-            keys: BTreeMap::new(alloc),
-            trees: Slab::new(alloc),
+            trees: IndexMap::new(alloc),
         }
     }
 
@@ -55,8 +49,7 @@ impl LiveTrees {
     pub fn find(&self, name: &[u8]) -> Option<LiveTree>
         ensures { result ≡ at name.now self.now }
     {
-        let key = self.keys.get(name)?;
-        self.trees.get(*key).copied()
+        self.trees.get(name).copied()
     }
 
     /// Names a tree. Where memory is wanted, nothing has changed.
@@ -67,11 +60,8 @@ impl LiveTrees {
         ensures one_more { OnOk result (IsPermutation ((name.now, tree) ∷ self.old) self.new) }
         ensures err { OnErr result (self.new ≡ self.old) }
     {
-        self.trees.reserve(1)?;
         let stored = Vec::from_slice(self.alloc, name)?;
-        let key = self.trees.vacant_key();
-        self.keys.insert(stored, key)?;
-        self.trees.insert_reserved(tree);
+        self.trees.insert(stored, tree)?;
         Ok(())
     }
 
@@ -83,8 +73,7 @@ impl LiveTrees {
         ensures one_less { IfSome result (λ tree. IsPermutation ((name.now, tree) ∷ self.new) self.old) }
         ensures absent { IfNone result (self.new ≡ self.old) }
     {
-        let key = self.keys.remove(name)?;
-        self.trees.try_remove(key)
+        self.trees.swap_remove(name)
     }
 
     /// Takes one tree out, whichever; None where there is none. Takes no memory.
@@ -94,7 +83,7 @@ impl LiveTrees {
             × IsPermutation ((name, tree) ∷ self.new) self.old) }
         ensures empty { IfNone result (self.new ≡ self.old) }
     {
-        let (_, key) = self.keys.pop_first()?;
-        self.trees.try_remove(key)
+        let (_, tree) = self.trees.pop()?;
+        Some(tree)
     }
 }

@@ -5,7 +5,7 @@ ghost use Rattle.std.specs.List.{list_all};
 ghost use Rattle.std.specs.Char.{is_ascii_digit};
 ghost use Rattle.bs_enum.specs.AllTrees.{trees_to};
 ghost use Rattle.bs_frac.specs.Text.{is_number, has_number_start};
-ghost use Rattle.bs_session.specs.Asked.{number_from_one, number_to, order_to, colours_to, few_to, order_asked};
+ghost use Rattle.bs_session.specs.Asked.{number_from_one, number_to, order_to, colours_to, few_to, order_asked, order_shared};
 
 use crate::error::Error;
 use bs_enum::{MAX_TREES, count_to};
@@ -98,5 +98,26 @@ pub(crate) fn order_asked(most: u64, colours: usize, word: &[u8]) -> Result<usiz
         Ok(order) => few_to(most, colours, order),
         Err(NumberFault::NoNumber) => Err(Error::Number),
         Err(NumberFault::AboveLimit) => Err(Error::TooLarge),
+    }
+}
+
+/// The same for trees of both numbers of colours, which have to be one number.
+pub(crate) fn order_shared(
+    most: u64,
+    colours: usize,
+    others: usize,
+    word: &[u8],
+) -> Result<usize, Error>
+    requires few { most ≤ MAX_TREES }
+    requires some_colours { 0 < others }
+    requires few_colours { others ≤ COLOURS }
+    ensures value { result ≡ order_shared most colours others (order_to word.now) }
+    ensures within { IfOk result (λ n. (0 < n) × (n ≤ MAX_NODES) × (trees_to n others ≤ most) × (colours ≡ others)) }
+{
+    match order_to(word) {
+        Err(NumberFault::NoNumber) => Err(Error::Number),
+        _ if colours != others => Err(Error::Colours),
+        Err(NumberFault::AboveLimit) => Err(Error::TooLarge),
+        Ok(order) => few_to(most, others, order),
     }
 }

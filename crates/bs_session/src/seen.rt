@@ -1,6 +1,8 @@
 //! The tableaux that a session sees. A contract sees a `Seen` as their list, with their names.
 
-ghost use Rattle.std.specs.Prelude.{◌≡◌, ◌≤◌, length, option_map};
+ghost use Rattle.std.specs.Prelude.{◌≡◌, ◌<◌, ◌≤◌, length, option_map, IfSome};
+ghost use Rattle.bs_script.specs.declared.TheConstants.{MAX_TABLES};
+ghost use Rattle.bs_session.specs.Known.{plain, number_of};
 ghost use Rattle.bs_session.specs.Names.{at};
 ghost use Rattle.bs_session.specs.Replies.{tables_seen};
 
@@ -36,9 +38,19 @@ impl<'a> Seen<'a> {
         Seen { script, above }
     }
 
+    /// The tableaux alone.
+    pub(crate) fn tables(&self) -> &'a [Tableau]
+        ensures { result.now ≡ plain self.now }
+    {
+        &self.script.tables()[..self.above]
+    }
+
     /// The tableau of this name, and its number. Goes down the script's search tree of names.
     pub(crate) fn find(&self, name: &[u8]) -> Option<(usize, &'a Tableau)>
-        ensures { option_map (λ found. found.1.now) result ≡ at name.now self.now }
+        ensures table { option_map (λ found. found.1.now) result ≡ at name.now self.now }
+        ensures number { option_map (λ found. found.0) result ≡ number_of name.now self.now }
+        ensures below { IfSome result (λ found. found.0 < length self.now) }
+        ensures few { IfSome result (λ found. found.0 < MAX_TABLES) }
     {
         let place = self.script.find_table(name)?;
         if place < self.above {

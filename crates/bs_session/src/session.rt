@@ -1,22 +1,32 @@
 //! The machine.
 
-ghost use Rattle.std.specs.Prelude.{true, ◌≡◌, ◌+◌, ◌<◌, ◌≤◌, ◌⊎◌, [], ◌++◌, length, None, IfOk, IfErr, OnOk, OnErr, IsErr, MatchOption};
+ghost use Rattle.std.specs.Prelude.{true, ◌≡◌, ◌≢◌, ◌+◌, ◌<◌, ◌≤◌, ◌⊎◌, [], ◌++◌, length, None, Some, IfOk, IfErr, OnOk, OnErr, IsErr, MatchOption};
 ghost use Rattle.bs_reply.specs.Lines.{same_line, error_line};
 ghost use Rattle.bs_script.specs.declared.TheConstants.{MAX_COMMANDS};
-ghost use Rattle.bs_session.specs.Changes.{IsApt, Carries, Refuses};
+ghost use Rattle.bs_series.specs.Expressions.{Extends};
+ghost use Rattle.bs_session.specs.Changes.{IsApt, Carries, Refuses, IsBookOf};
 ghost use Rattle.bs_session.specs.Errors.{error_number};
 ghost use Rattle.bs_session.specs.Replies.{session_replies};
-ghost use Rattle.bs_session.specs.Turns.{IsQuiet, Applies, Settles, fits, accepted};
-ghost use Rattle.bs_session.specs.Machine.{State, said, session_at, commands_of, outcome_at, IsTruthful, is_yes, IsSound, SaysOn, IsDone, Takes, left};
+ghost use Rattle.bs_session.specs.Space.{known_of};
+ghost use Rattle.bs_session.specs.Toil.{toil_of};
+ghost use Rattle.bs_session.specs.Works.{IsHanded};
+ghost use Rattle.bs_session.specs.Turns.{IsQuiet, GoesOn, Applies, Settles, fits, accepted};
+ghost use Rattle.bs_session.specs.Machine.{State, said, session_at, commands_of, plain_of, outcome_at, line_at, IsTruthful, is_yes, found_of, IsSound, SaysOn, IsDone, Takes, left};
+ghost use Rattle.bs_session.specs.declared.asked.Asked.TheVariants as asked;
+ghost use Rattle.bs_tableau.specs.Words.{words};
 
 use crate::MAX_REPLIES;
+use crate::asked::Asked;
 use crate::change::{Carried, Change};
 use crate::commands::command;
 use crate::error::{Error, Fault};
-use crate::live::{LiveTree, LiveTrees};
+use crate::live::LiveTree;
+use crate::namespace::Namespace;
 use crate::seen::Seen;
 use crate::step::{Answer, Step};
 use crate::table_weights::TableWeights;
+use crate::work::Work;
+use bs_frac::Coef;
 use bs_reply::{Line, write_line};
 use bs_script::Script;
 use std::alloc::{AllocError, Global};
@@ -31,26 +41,32 @@ pub struct Session {
     place: usize,
     interned: u32,
     used: usize,
-    live: LiveTrees,
+    names: Namespace,
     weights: TableWeights,
     out: Vec<u8>,
-    asked: Option<(LiveTree, LiveTree)>,
+    asked: Asked,
+    work: Work,
     failed: bool,
 }
 
 impl Model for Session {
+    ghost use Rattle.std.specs.Coded.{codes};
+    ghost use Rattle.bs_series.specs.SeriesData.{coded_series};
     ghost use Rattle.bs_session.specs.Machine.{State};
 
     ghost Value = { State };
+
+    ghost coded = { Prim.hlevel (codes, coded_series) };
 
     ghost view = { λ a. record {
       number = a.number;
       place = a.place;
       interned = a.interned;
       used = a.used;
-      live = a.live;
+      space = a.names;
       out = a.out.items;
       asked = a.asked;
+      work = a.work;
       failed = a.failed;
     } };
 }
@@ -61,6 +77,15 @@ fn is_yes(answer: Answer) -> bool
     matches!(answer, Answer::Yes)
 }
 
+fn found_of(answer: Answer) -> Option<Coef>
+    ensures { result ≡ found_of answer }
+{
+    match answer {
+        Answer::Found(coef) => Some(coef),
+        Answer::Go | Answer::Yes | Answer::No | Answer::Missing => None,
+    }
+}
+
 impl Session {
     /// A session of the script, sessions counted from 0.
     pub fn start(alloc: Global, script: &Script, number: usize) -> Result<Session, AllocError>
@@ -68,7 +93,7 @@ impl Session {
         ensures said { IfOk result (λ s. said script.now s ≡ session_replies script.now (session_at script.now number)) }
         ensures sound { IfOk result (λ s. IsSound script.now s) }
         ensures number { IfOk result (λ s. s.number ≡ number) }
-        ensures none { IfOk result (λ s. (s.live ≡ []) × (s.interned ≡ 0) × (s.asked ≡ None)) }
+        ensures none { IfOk result (λ s. (s.space.live ≡ []) × (s.space.book ≡ []) × (s.interned ≡ 0) × (s.asked ≡ asked.Nothing)) }
     {
         prove!(number < script.sessions().len());
         Ok(Session {
@@ -77,10 +102,11 @@ impl Session {
             place: 0,
             interned: 0,
             used: 0,
-            live: LiveTrees::new(alloc),
+            names: Namespace::new(alloc),
             weights: TableWeights::new(alloc),
             out: Vec::new(alloc),
-            asked: None,
+            asked: Asked::Nothing,
+            work: Work::new(alloc),
             failed: false,
         })
     }
@@ -90,11 +116,12 @@ impl Session {
     /// Once memory ran out, each later call says so.
     pub fn next(&mut self, script: &Script, answer: Answer) -> Result<Step, AllocError>
         requires sound { IsSound script.now self.old }
-        requires truthful { IsTruthful self.old.asked answer }
+        requires truthful { IsTruthful script.now self.old answer }
         ensures said { IfOk result (λ step. SaysOn step (said script.now self.old) (said script.now self.new)) }
         ensures takes { IfOk result (λ step. Takes script.now self.old self.new step) }
         ensures sound { OnOk result (IsSound script.now self.new) }
         ensures number { OnOk result (self.new.number ≡ self.old.number) }
+        ensures ids_stay { OnOk result (Extends self.old.space.book self.new.space.book) }
         ensures nearer { IfOk result (λ step. IsDone step ⊎ (left script.now self.new < left script.now self.old)) }
         ensures failed { OnErr result (self.new.failed ≡ true) }
         ensures for_good { self.old.failed ≡ true → IsErr result }
@@ -109,41 +136,50 @@ impl Session {
 
     fn try_next(&mut self, script: &Script, answer: Answer) -> Result<Step, AllocError>
         requires sound { IsSound script.now self.old }
-        requires truthful { IsTruthful self.old.asked answer }
+        requires truthful { IsTruthful script.now self.old answer }
         ensures said { IfOk result (λ step. SaysOn step (said script.now self.old) (said script.now self.new)) }
         ensures takes { IfOk result (λ step. Takes script.now self.old self.new step) }
         ensures sound { OnOk result (IsSound script.now self.new) }
         ensures number { OnOk result (self.new.number ≡ self.old.number) }
+        ensures ids_stay { OnOk result (Extends self.old.space.book self.new.space.book) }
         ensures nearer { IfOk result (λ step. IsDone step ⊎ (left script.now self.new < left script.now self.old)) }
     {
-        self.take(script, answer)?;
-        self.go_on(script)
+        match self.take(script, answer)? {
+            Some(step) => Ok(step),
+            None => self.go_on(script),
+        }
     }
 
-    /// Takes the answer to what was asked, if anything was.
-    fn take(&mut self, script: &Script, answer: Answer) -> Result<(), AllocError>
+    /// Takes the answer to what was asked, if anything was. Where more is to be asked for the same reply, says what.
+    fn take(&mut self, script: &Script, answer: Answer) -> Result<Option<Step>, AllocError>
         requires sound { IsSound script.now self.old }
-        requires truthful { IsTruthful self.old.asked answer }
+        requires truthful { IsTruthful script.now self.old answer }
         ensures said { OnOk result (said script.now self.new ≡ said script.now self.old) }
-        ensures quiet { OnOk result (IsQuiet self.old self.new) }
+        ensures takes { IfOk result (λ step. MatchOption step (IsQuiet self.old self.new) (λ s. Takes script.now self.old self.new s × (¬ IsDone s))) }
         ensures sound { OnOk result (IsSound script.now self.new) }
         ensures number { OnOk result (self.new.number ≡ self.old.number) }
-        ensures nearer { OnOk result (left script.now self.new ≤ left script.now self.old) }
+        ensures ids_stay { OnOk result (Extends self.old.space.book self.new.space.book) }
+        ensures nearer { IfOk result (λ step. MatchOption step (left script.now self.new ≤ left script.now self.old) (λ _. left script.now self.new < left script.now self.old)) }
     {
-        if self.asked.is_none() {
-            return Ok(());
+        match self.asked {
+            Asked::Nothing => Ok(None),
+            Asked::Same { .. } => {
+                self.compared(is_yes(answer))?;
+                Ok(None)
+            }
+            Asked::Value => self.evaluate(script, found_of(answer)),
         }
-        self.compared(is_yes(answer))
     }
 
     /// Carries out the commands from the place on, until there is something to ask.
     fn go_on(&mut self, script: &Script) -> Result<Step, AllocError>
         requires sound { IsSound script.now self.old }
-        requires idle { self.old.asked ≡ None }
+        requires idle { self.old.asked ≡ asked.Nothing }
         ensures said { IfOk result (λ step. SaysOn step (said script.now self.old) (said script.now self.new)) }
         ensures takes { IfOk result (λ step. Takes script.now self.old self.new step) }
         ensures sound { OnOk result (IsSound script.now self.new) }
         ensures number { OnOk result (self.new.number ≡ self.old.number) }
+        ensures ids_stay { OnOk result (Extends self.old.space.book self.new.space.book) }
         ensures nearer { IfOk result (λ step. IsDone step ⊎ (left script.now self.new < left script.now self.old)) }
     {
         let count = script.sessions()[self.number].len();
@@ -158,12 +194,13 @@ impl Session {
     /// Carries out the command at the place, or asks what its reply wants to know.
     fn turn(&mut self, script: &Script) -> Result<Option<Step>, AllocError>
         requires sound { IsSound script.now self.old }
-        requires idle { self.old.asked ≡ None }
+        requires idle { self.old.asked ≡ asked.Nothing }
         requires more { self.old.place < length (commands_of script.now self.old) }
         ensures said { OnOk result (said script.now self.new ≡ said script.now self.old) }
         ensures takes { IfOk result (λ step. MatchOption step (IsQuiet self.old self.new) (λ s. Takes script.now self.old self.new s × (¬ IsDone s))) }
         ensures sound { OnOk result (IsSound script.now self.new) }
         ensures number { OnOk result (self.new.number ≡ self.old.number) }
+        ensures ids_stay { OnOk result (Extends self.old.space.book self.new.space.book) }
         ensures nearer { OnOk result (left script.now self.new < left script.now self.old) }
     {
         let start = self.written();
@@ -174,8 +211,12 @@ impl Session {
                     left: left.number,
                     right: right.number,
                 };
-                self.asked = Some((left, right));
+                self.asked = Asked::Same { left, right };
                 Ok(Some(step))
+            }
+            Ok(Carried::Begun) => {
+                self.asked = Asked::Value;
+                self.evaluate(script, None)
             }
             Err(Fault::Refused(error)) => {
                 self.refuse(error)?;
@@ -196,9 +237,10 @@ impl Session {
     fn carry<'s>(&mut self, script: &'s Script) -> Result<Carried<'s>, Fault>
         requires sound { IsSound script.now self.old }
         requires more { self.old.place < length (commands_of script.now self.old) }
-        ensures carried { IfOk result (λ carried. Carries self.old.live (outcome_at script.now self.old) self.old.out self.new.out carried) }
+        ensures carried { IfOk result (λ carried. Carries (plain_of script.now self.old) self.new.space (outcome_at script.now self.old) (toil_of (known_of self.old.space) (words (line_at script.now self.old))) self.old.out self.new.out self.new.work carried) }
         ensures refused { IfErr result (λ fault. Refuses fault (outcome_at script.now self.old)) }
-        ensures rest { self.new ≡ record self.old { out = self.new.out } }
+        ensures book { IsBookOf (plain_of script.now self.old) self.old.space self.new.space }
+        ensures rest { self.new ≡ record self.old { out = self.new.out; space = self.new.space; work = self.new.work } }
         ensures unwritten { OnErr result (self.new.out ≡ self.old.out) }
     {
         let number = self.number;
@@ -206,16 +248,68 @@ impl Session {
         let tables = Seen::new(script, session.above());
         let place = self.place;
         let line = session.command(place);
-        command(&tables, &mut self.weights, &self.live, line, &mut self.out)
+        command(
+            &tables,
+            &mut self.weights,
+            &mut self.names,
+            line,
+            &mut self.out,
+            &mut self.work,
+        )
     }
 
-    /// Goes on with the answer to what was asked.
+    /// Goes on with the work on a reply: asks for what it wants, or takes the reply where it is whole.
+    fn evaluate(&mut self, script: &Script, found: Option<Coef>) -> Result<Option<Step>, AllocError>
+        requires sound { IsSound script.now self.old }
+        requires works { self.old.asked ≡ asked.Value }
+        requires handed { IsHanded (plain_of script.now self.old) self.old.space.book self.old.work found }
+        ensures said { OnOk result (said script.now self.new ≡ said script.now self.old) }
+        ensures takes { IfOk result (λ step. MatchOption step (IsQuiet self.old self.new) (λ s. Takes script.now self.old self.new s × (¬ IsDone s))) }
+        ensures sound { OnOk result (IsSound script.now self.new) }
+        ensures number { OnOk result (self.new.number ≡ self.old.number) }
+        ensures ids_stay { OnOk result (Extends self.old.space.book self.new.space.book) }
+        ensures nearer { OnOk result (left script.now self.new < left script.now self.old) }
+    {
+        let step = self.work_on(script, found)?;
+        if step.is_none() {
+            self.worked()?;
+        }
+        Ok(step)
+    }
+
+    /// Asks what the work on the reply wants to know; nothing where it is at its end.
+    fn work_on(&mut self, script: &Script, found: Option<Coef>) -> Result<Option<Step>, AllocError>
+        requires sound { IsSound script.now self.old }
+        requires works { self.old.asked ≡ asked.Value }
+        requires handed { IsHanded (plain_of script.now self.old) self.old.space.book self.old.work found }
+        ensures goes { IfOk result (λ step. GoesOn (plain_of script.now self.old) self.old.space.book self.old.work step self.new.work) }
+        ensures rest { self.new ≡ record self.old { work = self.new.work } }
+    {
+        let number = self.number;
+        let tables = Seen::new(script, script.sessions()[number].above());
+        self.work.next(self.names.book(), tables.tables(), found)
+    }
+
+    /// Takes the reply that is worked out.
+    fn worked(&mut self) -> Result<(), AllocError>
+        requires used { self.old.used ≤ MAX_REPLIES }
+        requires place { self.old.place < MAX_COMMANDS }
+        ensures { OnOk result (self.new ≡ accepted (length self.old.out) (record self.old { out = self.old.out ++ self.old.work.draft.items; asked = asked.Nothing })) }
+    {
+        self.asked = Asked::Nothing;
+        let start = self.out.len();
+        self.out.extend_from_slice(self.work.draft())?;
+        self.accept(start)?;
+        Ok(())
+    }
+
+    /// Goes on with the answer to a comparison.
     fn compared(&mut self, yes: bool) -> Result<(), AllocError>
         requires used { self.old.used ≤ MAX_REPLIES }
         requires place { self.old.place < MAX_COMMANDS }
-        ensures { OnOk result (self.new ≡ accepted (length self.old.out) (record self.old { out = self.old.out ++ same_line yes; asked = None })) }
+        ensures { OnOk result (self.new ≡ accepted (length self.old.out) (record self.old { out = self.old.out ++ same_line yes; asked = asked.Nothing })) }
     {
-        self.asked = None;
+        self.asked = Asked::Nothing;
         let start = self.out.len();
         write_line(&mut self.out, &Line::Same { yes })?;
         self.accept(start)?;
@@ -228,7 +322,7 @@ impl Session {
         requires used { self.old.used ≤ MAX_REPLIES }
         requires place { self.old.place < MAX_COMMANDS }
         requires interned { self.old.interned ≤ self.old.place }
-        requires apt { IsApt self.old.live change.now }
+        requires apt { IsApt self.old.space change.now }
         ensures settles { IfOk result (λ step. Settles start change.now self.old self.new step) }
     {
         if self.accept(start)? {
@@ -275,36 +369,41 @@ impl Session {
     /// Makes the change, and says what is to be done for it.
     fn apply(&mut self, change: &Change<'_>) -> Result<Option<Step>, AllocError>
         requires interned { self.old.interned ≤ MAX_COMMANDS }
-        requires apt { IsApt self.old.live change.now }
+        requires apt { IsApt self.old.space change.now }
         ensures { IfOk result (λ step. Applies change.now self.old self.new step) }
     {
         match *change {
             Change::Nothing => Ok(None),
             Change::Name { name, code } => {
                 let tree = self.interned;
-                self.live.insert(name, LiveTree { number: tree, code })?;
+                self.names.insert(name, LiveTree { number: tree, code })?;
                 self.interned += 1;
                 Ok(Some(Step::Intern { tree, code }))
             }
-            Change::Drop { name } => match self.live.remove(name) {
+            Change::Drop { name } => match self.names.remove(name) {
                 Some(tree) => Ok(Some(Step::Release { tree: tree.number })),
                 None => Ok(None),
             },
+            Change::Define { name, series } => {
+                self.names.define(name, series)?;
+                Ok(None)
+            }
         }
     }
 
     /// Gives the trees back that are still named, one at a call, and then the replies.
     fn end(&mut self, script: &Script) -> Step
         requires sound { IsSound script.now self.old }
-        requires idle { self.old.asked ≡ None }
+        requires idle { self.old.asked ≡ asked.Nothing }
         requires last { self.old.place ≡ length (commands_of script.now self.old) }
         ensures said { SaysOn result (said script.now self.old) (said script.now self.new) }
         ensures takes { Takes script.now self.old self.new result }
         ensures sound { IsSound script.now self.new }
         ensures number { self.new.number ≡ self.old.number }
+        ensures ids_stay { Extends self.old.space.book self.new.space.book }
         ensures nearer { IsDone result ⊎ (left script.now self.new < left script.now self.old) }
     {
-        match self.live.pop() {
+        match self.names.pop() {
             Some(tree) => Step::Release { tree: tree.number },
             None => Step::Done {
                 reply: mem::replace(&mut self.out, Vec::new(self.alloc)),

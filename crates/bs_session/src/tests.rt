@@ -1,5 +1,9 @@
 //! What no clause says: that a session goes on where memory is ample. What it replies is tested where sessions are driven.
 
+ghost use Rattle.bs_session.specs.Machine.{State, IsTruthful, Takes};
+ghost use Rattle.bs_script.specs.Blocks.{ScriptLines};
+ghost use Rattle.std.specs.Prelude.{IfOk};
+
 use super::*;
 use bs_script::{ScriptFault, read};
 use std::alloc::Global;
@@ -11,6 +15,49 @@ fn script_of(alloc: Global, input: &[u8]) -> Result<bs_script::Script, Fail> {
         Err(ScriptFault::Refused { .. }) => Err("refused")?,
         Err(ScriptFault::Memory(_)) => Err("out of memory")?,
     }
+}
+
+/// What a step is answered where nothing is remembered. Trees are not compared here.
+fn answer(step: &Step) -> Result<Answer, Fail>
+    ensures { (script : ScriptLines) (old new : State) → Takes script old new step.now → IfOk result (λ answer. IsTruthful script new answer) }
+{
+    match step {
+        Step::Intern { .. } | Step::Release { .. } | Step::Keep { .. } | Step::Done { .. } => {
+            Ok(Answer::Go)
+        }
+        Step::Look { .. } => Ok(Answer::Missing),
+        Step::Same { .. } => Err("a comparison")?,
+    }
+}
+
+/// The replies of a session of these commands, below the tableaux of a text.
+pub(crate) fn replies(alloc: Global, tableaux: &[u8], lines: &[&str]) -> Result<Vec<u8>, Fail> {
+    let mut input = Vec::from_slice(alloc, tableaux)?;
+    input.extend_from_slice(b"session\n")?;
+    'lines: for line in lines {
+        input.extend_from_slice(line.as_bytes())?;
+        input.extend_from_slice(b"\n")?;
+    }
+    input.extend_from_slice(b"end\n")?;
+    let script = script_of(alloc, &input)?;
+    driven(alloc, &script)
+}
+
+/// The replies of the first session of a script.
+fn driven(alloc: Global, script: &bs_script::Script) -> Result<Vec<u8>, Fail> {
+    if script.sessions().is_empty() {
+        return Err("no session")?;
+    }
+    let mut session = Session::start(alloc, script, 0)?;
+    let mut given = Answer::Go;
+    'steps: for _ in 0..100_000 {
+        let step = session.next(script, given)?;
+        given = answer(&step)?;
+        if let Step::Done { reply } = step {
+            return Ok(reply);
+        }
+    }
+    Err("no end")?
 }
 
 #[test]

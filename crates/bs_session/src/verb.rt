@@ -16,6 +16,10 @@ pub(crate) enum Verb {
     Order,
     Split,
     Partition,
+    Series,
+    Coeff,
+    Print,
+    Equal,
 }
 
 impl Verb {
@@ -43,6 +47,14 @@ impl Verb {
             Some(Verb::Split)
         } else if word == b"partition".as_slice() {
             Some(Verb::Partition)
+        } else if word == b"series".as_slice() {
+            Some(Verb::Series)
+        } else if word == b"coeff".as_slice() {
+            Some(Verb::Coeff)
+        } else if word == b"print".as_slice() {
+            Some(Verb::Print)
+        } else if word == b"equal".as_slice() {
+            Some(Verb::Equal)
         } else {
             None
         }

@@ -1,7 +1,7 @@
 //! The words of a command, where there are as many as it takes.
 
 ghost use Rattle.std.specs.Prelude.{◌≡◌, Some, None, MatchOption, option_copied};
-ghost use Rattle.bs_session.specs.Commands.{only, two, one_or_two, two_or_three};
+ghost use Rattle.bs_session.specs.Commands.{only, two, one_or_two, two_or_three, none_or_one, three};
 
 use bs_tableau::Words;
 
@@ -26,6 +26,17 @@ pub(crate) fn two<'a>(mut words: Words<'a>) -> Option<(&'a [u8], &'a [u8])>
         Some((first, second))
     } else {
         None
+    }
+}
+
+/// Perhaps one word is left, and no more.
+pub(crate) fn none_or_one<'a>(mut words: Words<'a>) -> Option<Option<&'a [u8]>>
+    ensures { MatchOption result (none_or_one words.entry ≡ None) (λ word. none_or_one words.entry ≡ Some (option_copied word)) }
+{
+    match words.next() {
+        None => Some(None),
+        Some(word) if words.has(0) => Some(Some(word)),
+        Some(_) => None,
     }
 }
 
@@ -56,5 +67,18 @@ pub(crate) fn two_or_three<'a>(
         None => Some((first, second, None)),
         Some(third) if words.has(0) => Some((first, second, Some(third))),
         Some(_) => None,
+    }
+}
+
+/// The only three words that are left.
+pub(crate) fn three<'a>(mut words: Words<'a>) -> Option<(&'a [u8], &'a [u8], &'a [u8])>
+    ensures { MatchOption result (three words.entry ≡ None) (λ w. three words.entry ≡ Some (w.0.now, w.1.now, w.2.now)) }
+{
+    let (Some(first), Some(second)) = (words.next(), words.next()) else {
+        return None;
+    };
+    match words.next() {
+        Some(third) if words.has(0) => Some((first, second, third)),
+        _ => None,
     }
 }

@@ -1,3 +1,4 @@
+use Rattle.bs_session.proofs.Goes.{Extends-refl, Extends-then}
 use Rattle.bs_session.proofs.Settled.{takes-after}
 use Rattle.bs_session.proofs.session.Session.go_on.Goals as goal
 

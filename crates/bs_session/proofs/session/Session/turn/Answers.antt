@@ -1,27 +1,42 @@
-use Rattle.std.proofs.Common.{◌≡◌, ℕ, ◌+◌, List, ◌++◌, IfOk, Err, length, refl, ◌∙◌, ap, subst}
+use Rattle.std.proofs.Common.{◌≡◌, ℕ, ◌+◌, ◌<◌, List, ◌++◌, arith, IfOk, Ok, Err, length, refl, sym, ◌∙◌, ap, subst, OnOk}
 use Rattle.bs_reply.specs.Lines.{error_line}
+use Rattle.bs_tableau.specs.Words.{words}
+use Rattle.bs_script.specs.Blocks.{ScriptLines}
 use Rattle.bs_session.specs.Errors.{error_number}
-use Rattle.bs_session.specs.Changes.{Says}
-use Rattle.bs_session.specs.Machine.{State, outcome_at}
+use Rattle.bs_session.specs.Space.{known_of}
+use Rattle.bs_session.specs.Toil.{toil_of}
+use Rattle.bs_session.specs.Changes.{Says, Begins, IsBookOf}
+use Rattle.bs_session.specs.Commands.{Outcome}
+use Rattle.bs_session.specs.Machine.{State, commands_of, outcome_at, line_at, plain_of, IsSound}
 use Rattle.bs_session.specs.Turns.{Settles}
+use Rattle.bs_session.specs.declared.asked.Asked.TheVariants as asked
 use Rattle.bs_session.specs.declared.step.Step.{Step}
 use Rattle.bs_session.specs.declared.change.Change.{Change}
-use Rattle.bs_session.proofs.Settled.{Goes, goes-settled, goes-refused, map_ok}
+use Rattle.bs_session.proofs.Settled.{goes-settled, goes-refused, asking, map_ok, map_on_ok}
+use Rattle.bs_session.proofs.Goes.{GoesFrom, Alike, takes-alike, goes-from, goes-alike, grown, sound-grown, alike-grown, known-grown, begun, sound-begun, alike-begun}
 use Rattle.bs_session.proofs.session.Session.turn.Goals as goal
 
-goes : (c : goal.After-settle) → IfOk c.settle.result (λ step. Goes c.args.script.now c.args.self.now c.settle.new.self step)
+goes : (c : goal.After-settle) → IfOk c.settle.result (λ step. GoesFrom c.args.script.now c.args.self.now c.settle.new.self step)
 goes c =
+    let script = c.args.script.now in
     let old = c.args.self.now in
+    let mid = c.carry.new.self in
     let change = c.in-Ok-Replied.change in
-    let says : Says old.live (outcome_at c.args.script.now old) old.out c.carry.new.self.out change = rw c.in-Ok-Replied.field-0-is at c.in-Ok-Replied.ensures.carried in
+    let e = c.in-Ok-Replied.ensures in
+    let before : State = grown old mid.space mid.work in
+    let known = known-grown (plain_of script old) old.space mid.space e.book in
+    let outcome : outcome_at script before ≡ outcome_at script old = rw known refl in
+    let says : Says mid.space (outcome_at script before) old.out mid.out change = subst (λ (o : Outcome). Says mid.space o old.out mid.out change) (sym outcome) (rw c.in-Ok-Replied.field-0-is at e.carried) in
+    let sound : IsSound script before = sound-grown script old mid.space mid.work c.requires.sound c.requires.idle e.book in
     map_ok
-    (λ step. Settles c.written-start.result change c.carry.new.self c.settle.new.self step)
-    (λ step. Goes c.args.script.now old c.settle.new.self step)
+    (λ step. Settles c.written-start.result change mid c.settle.new.self step)
+    (λ step. GoesFrom script old c.settle.new.self step)
     c.settle.result
     (λ step s.
-    let s2 : Settles (length old.out) change c.carry.new.self c.settle.new.self step = subst (λ n. Settles n change c.carry.new.self c.settle.new.self step) c.written-start.ensures s in
-    let s3 = subst (λ (t : State). Settles (length old.out) change t c.settle.new.self step) c.in-Ok-Replied.ensures.rest s2 in
-    goes-settled c.args.script.now old c.settle.new.self (outcome_at c.args.script.now old) c.carry.new.self.out change step c.requires.sound c.requires.idle c.requires.more refl says s3)
+    let s2 : Settles (length old.out) change mid c.settle.new.self step = subst (λ n. Settles n change mid c.settle.new.self step) c.written-start.ensures s in
+    let s3 : Settles (length old.out) change (record before { out = mid.out }) c.settle.new.self step = subst (λ (t : State). Settles (length old.out) change t c.settle.new.self step) e.rest s2 in
+    let g = goes-settled script before c.settle.new.self (outcome_at script before) mid.out change step sound c.requires.idle c.requires.more refl says s3 in
+    goes-alike script old before c.settle.new.self step (alike-grown script old mid.space mid.work c.requires.idle e.book) (goes-from script before c.settle.new.self step c.requires.more g))
     c.settle.ensures.settles
 
 pub returns-in-Ok-Replied-clause-said : goal.returns-in-Ok-Replied-clause-said
@@ -33,13 +48,58 @@ returns-in-Ok-Replied-clause-takes c = map_ok _ _ c.settle.result (λ step g. g.
 pub returns-in-Ok-Replied-clause-sound : goal.returns-in-Ok-Replied-clause-sound
 returns-in-Ok-Replied-clause-sound c = map_ok _ _ c.settle.result (λ step g. g.sound) (goes c)
 
+pub returns-in-Ok-Replied-clause-nearer : goal.returns-in-Ok-Replied-clause-nearer
+returns-in-Ok-Replied-clause-nearer c = map_ok _ _ c.settle.result (λ step g. g.nearer) (goes c)
+
 pub returns-in_ok-refuse-in-Err-Refused-clause-sound :
     goal.returns-in_ok-refuse-in-Err-Refused-clause-sound
 returns-in_ok-refuse-in-Err-Refused-clause-sound c =
+    let script = c.args.script.now in
     let old = c.args.self.now in
+    let mid = c.carry.new.self in
+    let e = c.in-Err-Refused.ensures in
     let error = c.in-Err-Refused.error in
-    let unwritten : c.carry.new.self.out ≡ old.out = c.in-Err-Refused.ensures.unwritten in
-    let same : c.carry.new.self ≡ old = c.in-Err-Refused.ensures.rest ∙ ap (λ (o : List ℕ). let s : State = record old { out = o } in s) unwritten in
-    let outcome : outcome_at c.args.script.now old ≡ Err error = rw c.in-Err-Refused.field-0-is at c.in-Err-Refused.ensures.refused in
+    let before : State = grown old mid.space mid.work in
+    let same : mid ≡ before = e.rest ∙ ap (λ (o : List ℕ). let s : State = record old { out = o; space = mid.space; work = mid.work } in s) e.unwritten in
+    let known = known-grown (plain_of script old) old.space mid.space e.book in
+    let refused : outcome_at script old ≡ Err error = rw c.in-Err-Refused.field-0-is at e.refused in
+    let outcome_same : outcome_at script before ≡ outcome_at script old = rw known refl in
+    let outcome : outcome_at script before ≡ Err error = outcome_same ∙ refused in
     let is = subst (λ (s : State). c.refuse.new.self ≡ record s { out = s.out ++ error_line (error_number error); place = s.place + 1 }) same c.in_ok-refuse-in-Err-Refused.ensures in
-    (goes-refused c.args.script.now old c.refuse.new.self error c.requires.sound c.requires.idle c.requires.more outcome is).sound
+    (goes-refused script before c.refuse.new.self error (sound-grown script old mid.space mid.work c.requires.sound c.requires.idle e.book) c.requires.idle c.requires.more outcome is).sound
+
+-- ---- work that is begun
+module _ (script : ScriptLines) (old mid : State) (idle : old.asked ≡ asked.Nothing) (more : old.place < length (commands_of script old))
+    (rest : mid ≡ record old { out = mid.out; space = mid.space; work = mid.work }) (book : IsBookOf (plain_of script old) old.space mid.space)
+    (carried : Begins (plain_of script old) mid.space (outcome_at script old) (toil_of (known_of old.space) (words (line_at script old))) mid.work × (mid.out ≡ old.out)) where
+  same_begun : mid ≡ grown old mid.space mid.work
+  same_begun = rest ∙ ap (λ (o : List ℕ). let s : State = record old { out = o; space = mid.space; work = mid.work } in s) carried.1
+
+  mid_sound : IsSound script old → IsSound script (asking mid asked.Value)
+  mid_sound sound = subst (λ (s : State). IsSound script (asking s asked.Value)) (sym same_begun) (sound-begun script old mid.space mid.work _ sound more book carried.0)
+
+  mid_alike : Alike script old (asking mid asked.Value)
+  mid_alike = subst (λ (s : State). Alike script old (asking s asked.Value)) (sym same_begun) (alike-begun script old mid.space mid.work idle more book carried.0.left)
+
+pub evaluate-requires-clause-sound : goal.evaluate-requires-clause-sound
+evaluate-requires-clause-sound c =
+    let e = c.in-Ok-Begun.ensures in
+    let carried = rw c.in-Ok-Begun.field-0-is at e.carried in
+    subst (λ (s : State). IsSound c.args.script.now (asking s asked.Value)) (sym c.self-in-Ok-Begun.view_is)
+    (mid_sound c.args.script.now c.args.self.now c.carry.new.self c.requires.idle c.requires.more e.rest e.book carried c.requires.sound)
+
+pub returns-in-Ok-Begun-clause-takes : goal.returns-in-Ok-Begun-clause-takes
+returns-in-Ok-Begun-clause-takes c =
+    let e = c.in-Ok-Begun.ensures in
+    let carried = rw c.in-Ok-Begun.field-0-is at e.carried in
+    let alike = subst (λ (s : State). Alike c.args.script.now c.args.self.now (asking s asked.Value)) (sym c.self-in-Ok-Begun.view_is)
+    (mid_alike c.args.script.now c.args.self.now c.carry.new.self c.requires.idle c.requires.more e.rest e.book carried) in
+    map_ok _ _ c.evaluate.result (λ step t. takes-alike c.args.script.now c.args.self.now _ _ step alike t) c.evaluate.ensures.takes
+
+pub returns-in-Ok-Begun-clause-nearer : goal.returns-in-Ok-Begun-clause-nearer
+returns-in-Ok-Begun-clause-nearer c =
+    let e = c.in-Ok-Begun.ensures in
+    let carried = rw c.in-Ok-Begun.field-0-is at e.carried in
+    let alike = subst (λ (s : State). Alike c.args.script.now c.args.self.now (asking s asked.Value)) (sym c.self-in-Ok-Begun.view_is)
+    (mid_alike c.args.script.now c.args.self.now c.carry.new.self c.requires.idle c.requires.more e.rest e.book carried) in
+    map_on_ok _ _ c.evaluate.result (λ h. omega (arith, h, alike.nearer)) c.evaluate.ensures.nearer

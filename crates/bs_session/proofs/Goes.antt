@@ -1,0 +1,308 @@
+-- A turn as a whole: what is said, what is done for it, that the state stays sound, and that less is left.
+use Rattle.std.proofs.Common.{◌≡◌, ℕ, suc, ◌+◌, ◌-◌, ◌*◌, ◌<◌, ◌≤◌, List, [], ◌∷◌, ◌++◌, length, drop, Option, Some, None, is_some, not, Bool, true, false, MatchOption, Result, Ok, Err, IfOk, refl, sym, ◌∙◌, ap, subst, arith}
+use Rattle.bs_tableau.specs.Table.{Table}
+use Rattle.bs_tableau.specs.Words.{words}
+use Rattle.bs_script.specs.Blocks.{ScriptLines}
+use Rattle.bs_series.specs.Series.{Series}
+use Rattle.bs_series.specs.Expressions.{Extends}
+use Rattle.bs_session.specs.Known.{Known}
+use Rattle.bs_session.specs.Commands.{Outcome}
+use Rattle.bs_session.specs.Space.{Space, known_of}
+use Rattle.bs_session.specs.Toil.{toil_of}
+use Rattle.bs_session.specs.Works.{IsWork, StepsOn, whole_reply, work_left}
+use Rattle.bs_session.specs.Changes.{IsBookOf, Begins}
+use Rattle.bs_session.specs.Machine.{State, commands_of, tables_of, plain_of, line_at, outcome_at, said, IsSound, IsAsked, Evaluates, Takes, IsDone, toil_behind, toil_from, left, idle}
+use Rattle.bs_session.specs.Turns.{IsQuiet, GoesOn, accepted}
+use Rattle.bs_session.specs.declared.asked.Asked.{Asked}
+use Rattle.bs_session.specs.declared.asked.Asked.TheVariants as asked
+use Rattle.bs_session.specs.declared.change.Change.TheVariants.{Nothing}
+use Rattle.bs_session.specs.declared.live.LiveTree.{LiveTree}
+use Rattle.bs_session.specs.declared.step.Step.{Step}
+use Rattle.bs_session.specs.declared.step.Step.TheVariants.{Intern, Release, Same, Look, Keep, Done}
+use Rattle.bs_session.specs.declared.work.Work.{Work}
+use Rattle.bs_session.proofs.Turns.{toil-here}
+use Rattle.bs_session.proofs.Settled.{Goes, goes-settled, left_here, asking, unasked, sound-asking, asked-as, takes-after, settles-nothing}
+
+pub Extends-refl : (es : List Series) → Extends es es
+Extends-refl es = record { grows = omega arith; stays = λ i below. refl }
+
+pub Extends-same : (es es' : List Series) → es' ≡ es → Extends es es'
+Extends-same es es' e = rw e (Extends-refl es)
+
+pub Extends-then : (a b c : List Series) → Extends a b → Extends b c → Extends a c
+Extends-then a b c f g = record {
+  grows = omega (arith, f.grows, g.grows);
+  stays = λ i below. g.stays i (omega (arith, below, f.grows)) ∙ f.stays i below;
+}
+
+pub record GoesFrom (script : ScriptLines) (old new : State) (step : Option Step) : Type 0 where
+  pub said : said script new ≡ said script old
+  pub takes : MatchOption step (IsQuiet old new) (λ s. Takes script old new s × (¬ IsDone s))
+  pub sound : IsSound script new
+  pub number : new.number ≡ old.number
+  pub ids_stay : Extends old.space.book new.space.book
+  pub nearer : left script new < left script old
+
+-- ---- before the command at the place
+here-by : (script : ScriptLines) (s : State) (question : Asked) → s.place < length (commands_of script s) → toil_behind script s ≤ toil_from script s question
+here-by script s asked.Nothing more = let e = toil-here script s more in omega (arith, e)
+here-by script s (asked.Same l r) more = let e = toil-here script s more in omega (arith, e)
+here-by script s asked.Value more = omega arith
+
+pub left-here : (script : ScriptLines) (s : State) → s.place < length (commands_of script s) → left_here script s ≤ left script s
+left-here script s more = let e = here-by script s s.asked more in omega (arith, e)
+
+pub goes-from : (script : ScriptLines) (old new : State) (step : Option Step) → old.place < length (commands_of script old) → Goes script old new step → GoesFrom script old new step
+goes-from script old new step more g =
+    let here = left-here script old more in
+    record {
+      said = g.said;
+      takes = g.takes;
+      sound = g.sound;
+      number = g.number;
+      ids_stay = Extends-same old.space.book new.space.book g.book;
+      nearer = omega (arith, g.nearer, here);
+    }
+
+-- ---- a state that says the same
+pub record Alike (script : ScriptLines) (old mid : State) : Type 0 where
+  pub said : said script mid ≡ said script old
+  pub number : mid.number ≡ old.number
+  pub live : mid.space.live ≡ old.space.live
+  pub interned : mid.interned ≡ old.interned
+  pub ids_stay : Extends old.space.book mid.space.book
+  pub nearer : left script mid ≤ left script old
+
+pub takes-alike : (script : ScriptLines) (old mid new : State) (step : Option Step) → Alike script old mid → MatchOption step (IsQuiet mid new) (λ s. Takes script mid new s × (¬ IsDone s)) → MatchOption step (IsQuiet old new) (λ s. Takes script old new s × (¬ IsDone s))
+takes-alike script old mid new None a q = record { live = q.live ∙ a.live; interned = q.interned ∙ a.interned; asked = q.asked }
+takes-alike script old mid new (Some step) a t = (takes-after script old mid new step a.number a.live a.interned t.0, t.1)
+
+pub goes-alike : (script : ScriptLines) (old mid new : State) (step : Option Step) → Alike script old mid → GoesFrom script mid new step → GoesFrom script old new step
+goes-alike script old mid new step a g = record {
+  said = g.said ∙ a.said;
+  takes = takes-alike script old mid new step a g.takes;
+  sound = g.sound;
+  number = g.number ∙ a.number;
+  ids_stay = Extends-then old.space.book mid.space.book new.space.book a.ids_stay g.ids_stay;
+  nearer = omega (arith, g.nearer, a.nearer);
+}
+
+-- ---- the state with a book that has grown
+abbrev pub grown : State → Space → Work → State
+grown s space work = record s { space = space; work = work }
+
+pub sound-grown : (script : ScriptLines) (old : State) (space : Space) (work : Work) → IsSound script old → old.asked ≡ asked.Nothing → IsBookOf (plain_of script old) old.space space → IsSound script (grown old space work)
+sound-grown script old space work sound idle book = record {
+  here = sound.here;
+  few = sound.few;
+  place = sound.place;
+  interned = sound.interned;
+  used = sound.used;
+  numbered = rw book.live sound.numbered;
+  apart = rw book.live sound.apart;
+  suits = book.suits;
+  asked = rw idle tt;
+}
+
+pub known-grown : (ts : List Table) (old new : Space) → IsBookOf ts old new → known_of new ≡ known_of old
+known-grown ts old new book = rw (book.live, book.series) refl
+
+pub alike-grown : (script : ScriptLines) (old : State) (space : Space) (work : Work) → old.asked ≡ asked.Nothing → IsBookOf (plain_of script old) old.space space → Alike script old (grown old space work)
+alike-grown script old space work idle book =
+    let e : left script (grown old space work) ≡ left script old = rw (idle, book.live, book.series) refl in
+    record {
+      said = rw (book.live, book.series) refl;
+      number = refl;
+      live = book.live;
+      interned = refl;
+      ids_stay = book.ids_stay;
+      nearer = omega (arith, e);
+    }
+
+-- ---- the state with work that is begun
+abbrev pub begun : State → Space → Work → State
+begun s space work = record s { space = space; work = work; asked = asked.Value }
+
+pub sound-begun : (script : ScriptLines) (old : State) (space : Space) (work : Work) (most : ℕ) → IsSound script old → old.place < length (commands_of script old) → IsBookOf (plain_of script old) old.space space
+    → Begins (plain_of script old) space (outcome_at script old) most work → IsSound script (begun old space work)
+sound-begun script old space work most sound more book b = record {
+  here = sound.here;
+  few = sound.few;
+  place = sound.place;
+  interned = sound.interned;
+  used = sound.used;
+  numbered = rw book.live sound.numbered;
+  apart = rw book.live sound.apart;
+  suits = book.suits;
+  asked = record {
+    here = more;
+    work = b.work;
+    reply = rw (book.live, book.series) (rw (book.live, book.series) at b.is);
+  };
+}
+
+pub alike-begun : (script : ScriptLines) (old : State) (space : Space) (work : Work) → old.asked ≡ asked.Nothing → old.place < length (commands_of script old) → IsBookOf (plain_of script old) old.space space
+    → work_left space.book work ≤ toil_of (known_of old.space) (words (line_at script old)) → Alike script old (begun old space work)
+alike-begun script old space work idle more book few =
+    let toil = toil-here script old more in
+    let now : left script (begun old space work) ≡ 3 * (length (commands_of script old) - old.place) + length old.space.live + 0 + (work_left space.book work + toil_behind script old) = rw (book.live, book.series) refl in
+    let before : left script old ≡ 3 * (length (commands_of script old) - old.place) + length old.space.live + 1 + toil_from script old asked.Nothing = rw idle refl in
+    record {
+      said = rw (book.live, book.series) refl;
+      number = refl;
+      live = book.live;
+      interned = refl;
+      ids_stay = book.ids_stay;
+      nearer = omega (arith, now, before, toil, few);
+    }
+
+-- ---- work that goes on
+abbrev pub working : State → Work → State
+working s work = record s { work = work }
+
+works_of : (script : ScriptLines) (old : State) (work : Work) (step : Step) → old.asked ≡ asked.Value → StepsOn (plain_of script old) old.space.book work step → Takes script old (working old work) step × (¬ IsDone step)
+works_of script old work (Intern tree code) value s = absurd s
+works_of script old work (Release tree) value s = absurd s
+works_of script old work (Same x y) value s = absurd s
+works_of script old work (Look id code) value s = (record { asked = value; is = s; live = refl; counted = refl }, λ done. done)
+works_of script old work (Keep id code v) value s = (record { asked = value; is = s; live = refl; counted = refl }, λ done. done)
+works_of script old work (Done reply) value s = absurd s
+
+sound_working : (script : ScriptLines) (old : State) (work : Work) → IsSound script old → old.asked ≡ asked.Value → IsWork (plain_of script old) old.space.book work
+    → whole_reply (plain_of script old) old.space.book work ≡ whole_reply (plain_of script old) old.space.book old.work → IsSound script (working old work)
+sound_working script old work sound value is same =
+    let e = asked-as script old asked.Value value sound in
+    let evaluates : Evaluates script (working old work) = record {
+      here = e.here;
+      work = is;
+      reply = e.reply ∙ ap (λ (r : List ℕ). let o : Outcome = Ok (known_of old.space, r) in o) (sym same);
+    } in
+    record {
+      here = sound.here;
+      few = sound.few;
+      place = sound.place;
+      interned = sound.interned;
+      used = sound.used;
+      numbered = sound.numbered;
+      apart = sound.apart;
+      suits = sound.suits;
+      asked = subst (λ q. IsAsked script (working old work) q) (sym value) evaluates;
+    }
+
+pub goes-working : (script : ScriptLines) (old : State) (work : Work) (step : Step) → IsSound script old → old.asked ≡ asked.Value
+    → GoesOn (plain_of script old) old.space.book old.work (Some step) work → GoesFrom script old (working old work) (Some step)
+goes-working script old work step sound value g =
+    let now : left script (working old work) ≡ 3 * (length (commands_of script old) - old.place) + length old.space.live + 0 + (work_left old.space.book work + toil_behind script old) = rw value refl in
+    let before : left script old ≡ 3 * (length (commands_of script old) - old.place) + length old.space.live + 0 + (work_left old.space.book old.work + toil_behind script old) = rw value refl in
+    record {
+      said = refl;
+      takes = works_of script old work step value g.is;
+      sound = sound_working script old work sound value g.work g.reply;
+      number = refl;
+      ids_stay = Extends-refl old.space.book;
+      nearer = omega (arith, now, before, g.nearer);
+    }
+
+-- ---- work that is at its end
+pub goes-worked : (script : ScriptLines) (old new : State) (work : Work) → IsSound script old → old.asked ≡ asked.Value → GoesOn (plain_of script old) old.space.book old.work None work
+    → new ≡ accepted (length old.out) (record old { work = work; out = old.out ++ work.draft.items; asked = asked.Nothing }) → GoesFrom script old new None
+goes-worked script old new work sound value whole e =
+    let is = asked-as script old asked.Value value sound in
+    let mid : State = working (unasked old) work in
+    let reply : Known × List ℕ = (known_of old.space, work.draft.items) in
+    let outcome : outcome_at script mid ≡ Ok reply = is.reply ∙ ap (λ (r : List ℕ). let o : Outcome = Ok (known_of old.space, r) in o) (sym whole) in
+    let mid_sound : IsSound script mid = record {
+      here = sound.here;
+      few = sound.few;
+      place = sound.place;
+      interned = sound.interned;
+      used = sound.used;
+      numbered = sound.numbered;
+      apart = sound.apart;
+      suits = sound.suits;
+      asked = tt;
+    } in
+    let g = goes-settled script mid new (Ok reply) (old.out ++ work.draft.items) Nothing None mid_sound refl is.here outcome (refl, refl, tt)
+    (settles-nothing (length old.out) (record old { work = work; out = old.out ++ work.draft.items; asked = asked.Nothing }) new e) in
+    let here = left-here script old is.here in
+    record {
+      said = g.said;
+      takes = record { live = g.takes.live; interned = g.takes.interned; asked = g.takes.asked };
+      sound = g.sound;
+      number = g.number;
+      ids_stay = Extends-same old.space.book new.space.book g.book;
+      nearer = omega (arith, g.nearer, here);
+    }
+
+-- ---- an answer to a comparison
+pub goes-answered : (script : ScriptLines) (old new : State) → old.place < length (commands_of script old) → Goes script (unasked old) new None → GoesFrom script old new None
+goes-answered script old new more g =
+    let here = left-here script old more in
+    record {
+      said = g.said;
+      takes = record { live = g.takes.live; interned = g.takes.interned; asked = g.takes.asked };
+      sound = g.sound;
+      number = g.number;
+      ids_stay = Extends-same old.space.book new.space.book g.book;
+      nearer = omega (arith, g.nearer, here);
+    }
+
+-- ---- a tree that is given back at the end
+pub left-released : (script : ScriptLines) (old : State) (live : List (List ℕ × LiveTree)) → old.asked ≡ asked.Nothing → old.place ≡ length (commands_of script old) → length live + 1 ≡ length old.space.live
+    → left script (record old { space = record old.space { live = live } }) < left script old
+left-released script old live idle last less =
+    let none : drop old.place (commands_of script old) ≡ [] = rw last (drop_all (commands_of script old)) in
+    rw (idle, none) (omega (arith, less))
+  where
+    drop_all : {X : Type 0} (xs : List X) → drop (length xs) xs ≡ []
+    drop_all [] = refl
+    drop_all (x ∷ xs) = drop_all xs
+
+-- ---- what the work comes to, by whether there is a step
+pub goes-ended : (script : ScriptLines) (old new : State) (work : Work) (step : Option Step) (none : Bool) → IsSound script old → old.asked ≡ asked.Value → GoesOn (plain_of script old) old.space.book old.work step work
+    → is_some step ≡ not none → none ≡ true → new ≡ accepted (length old.out) (record old { work = work; out = old.out ++ work.draft.items; asked = asked.Nothing }) → GoesFrom script old new step
+goes-ended script old new work None none sound value g is h e = goes-worked script old new work sound value g e
+goes-ended script old new work (Some step) none sound value g is h e = absurd (let f : true ≡ false = is ∙ ap not h in cc)
+
+pub goes-asked : (script : ScriptLines) (old new : State) (work : Work) (step : Option Step) (none : Bool) → IsSound script old → old.asked ≡ asked.Value → GoesOn (plain_of script old) old.space.book old.work step work
+    → is_some step ≡ not none → none ≡ false → new ≡ working old work → GoesFrom script old new step
+goes-asked script old new work None none sound value g is h e = absurd (let f : false ≡ true = is ∙ ap not h in cc)
+goes-asked script old new work (Some step) none sound value g is h e = rw e (goes-working script old work step sound value g)
+
+-- ---- a state that only says more of memory
+pub takes-failed : (script : ScriptLines) (old new : State) (failed : Bool) (step : Step) → Takes script old new step → Takes script old (record new { failed = failed }) step
+takes-failed script old new failed (Intern tree code) t =
+    let i = t.0 in (
+      record {
+        name = i.name;
+        next = i.next;
+        counted = i.counted;
+        free = i.free;
+        live = i.live;
+        line = i.line;
+        read = i.read;
+        reply = i.reply;
+        series = i.series;
+        named = i.named;
+      },
+      t.1,
+    )
+takes-failed script old new failed (Release tree) t =
+    let r = t.0 in (
+      record { name = r.name; given = r.given; was = r.was; is = r.is; gone = r.gone; counted = r.counted },
+      t.1,
+    )
+takes-failed script old new failed (Same x y) t = record {
+  first = t.first;
+  second = t.second;
+  asked = t.asked;
+  left_is = t.left_is;
+  right_is = t.right_is;
+  left_live = t.left_live;
+  right_live = t.right_live;
+  live = t.live;
+  counted = t.counted;
+}
+takes-failed script old new failed (Look id code) t = record { asked = t.asked; is = t.is; live = t.live; counted = t.counted }
+takes-failed script old new failed (Keep id code v) t = record { asked = t.asked; is = t.is; live = t.live; counted = t.counted }
+takes-failed script old new failed (Done reply) t = t

@@ -1,0 +1,261 @@
+//! The work on a reply that wants coefficients.
+//!
+//! It evaluates one coefficient after another, and hands each to its task, which writes the reply. Nobody counts the steps of the
+//! walks of an evaluation, so their ledger is a brand.
+
+ghost use Rattle.std.specs.Prelude.{◌≡◌, ◌<◌, ◌≤◌, ◌++◌, suc, List, [], None, length, IfOk, IfSome, IfNone, OnOk, IsSome};
+ghost use Rattle.bs_enum.specs.AllTrees.{trees_to};
+ghost use Rattle.bs_tableau.specs.Table.{Table};
+ghost use Rattle.bs_series.specs.Series.{Series, colours_of};
+ghost use Rattle.bs_series.specs.SeriesCode.{written_at};
+ghost use Rattle.bs_series.specs.Accepted.{Suits};
+ghost use Rattle.bs_series.specs.Expressions.{series_at};
+ghost use Rattle.bs_eval.specs.Frames.{value_at_pair};
+ghost use Rattle.bs_eval.specs.Turns.{turns};
+ghost use Rattle.bs_reply.specs.Lines.{coeff_line};
+ghost use Rattle.bs_session.specs.SeriesReplies.{print_reply, equal_reply};
+ghost use Rattle.bs_session.specs.Works.{to_come_next, to_come_of, whole_reply, next_left, job_left, work_left, turns_to_print, turns_to_compare, HasColoured, IsNext, IsJob, IsWork, IsHanded, IsTask, StepsOn, pair_of, turns_behind};
+
+use crate::MAX_CONDITIONS;
+use crate::step::Step;
+use crate::task::Task;
+use crate::up_to::UpTo;
+use bs_enum::count_to;
+use bs_eval::{Ask, Eval};
+use bs_frac::Coef;
+use bs_reply::{Line, write_line};
+use bs_series::{Book, SeriesId};
+use bs_steps::Steps;
+use bs_tableau::Tableau;
+use bs_tree::{Code, MAX_NODES};
+use std::alloc::{AllocError, Global};
+use std::marker::Brand;
+use std::sync::ledger::{Blank, Ledger};
+
+/// An evaluation, and the task that awaits its value.
+#[derive(Drop)]
+pub(crate) struct Job {
+    pub(crate) eval: Eval,
+    pub(crate) task: Task,
+}
+
+/// A reply in the making: what is written of it, and the job that is left, if one is.
+#[derive(Drop)]
+pub(crate) struct Work {
+    alloc: Global,
+    draft: Vec<u8>,
+    job: Option<Job>,
+}
+
+/// The job of a task: its value is still to be worked out.
+fn job_of(alloc: Global, next: Option<Task>) -> Option<Job>
+    ensures told { (tables : List Table) (es : List Series) → to_come_of tables es result ≡ to_come_next tables es next }
+    ensures sound { (tables : List Table) (es : List Series) → IsNext es next → IsJob tables es result }
+    ensures left { (es : List Series) → job_left es result ≡ next_left es next }
+{
+    match next {
+        None => None,
+        Some(task) => {
+            let (series, code) = task.pair();
+            Some(Job {
+                eval: Eval::start(alloc, series, code),
+                task,
+            })
+        }
+    }
+}
+
+impl Work {
+    /// No job, and nothing written. Takes no memory.
+    pub(crate) fn new(alloc: Global) -> Work
+        ensures job { result.job ≡ None }
+        ensures draft { result.draft.items ≡ [] }
+    {
+        Work {
+            alloc,
+            draft: Vec::new(alloc),
+            job: None,
+        }
+    }
+
+    /// What is written of the reply.
+    pub(crate) fn draft(&self) -> &[u8]
+        ensures { result.now ≡ self.now.draft.items }
+    {
+        self.draft.as_slice()
+    }
+
+    /// Forgets the work before. Its memory is kept.
+    fn clear(&mut self)
+        ensures job { self.new.job ≡ None }
+        ensures draft { self.new.draft.items ≡ [] }
+    {
+        self.draft.clear();
+        self.job = None;
+    }
+
+    /// Begins the reply with one coefficient.
+    pub(crate) fn coeff(&mut self, book: &Book, series: SeriesId, code: Code)
+        requires known { series < length book.now }
+        requires coloured { HasColoured book.now series code }
+        ensures reply { (tables : List Table) → whole_reply tables book.now self.new ≡ coeff_line (written_at tables (series_at book.now series) code) }
+        ensures work { (tables : List Table) → IsWork tables book.now self.new }
+        ensures nearer { work_left book.now self.new ≤ suc (turns (series_at book.now series) code) }
+    {
+        self.clear();
+        self.job = job_of(self.alloc, Some(Task::Coeff { series, code }));
+    }
+
+    /// Begins the reply with the coefficients at the trees to an order.
+    pub(crate) fn print(
+        &mut self,
+        book: &Book,
+        series: SeriesId,
+        order: usize,
+    ) -> Result<(), AllocError>
+        requires known { series < length book.now }
+        requires few_nodes { order ≤ MAX_NODES }
+        requires few { trees_to order (colours_of (series_at book.now series)) ≤ MAX_CONDITIONS }
+        ensures reply { (tables : List Table) → OnOk result (whole_reply tables book.now self.new ≡ print_reply tables (series_at book.now series) order) }
+        ensures work { (tables : List Table) → OnOk result (IsWork tables book.now self.new) }
+        ensures nearer { OnOk result (work_left book.now self.new ≤ turns_to_print (series_at book.now series) order) }
+    {
+        let colours = usize::from(book.colours(series));
+        let number = count_to(order, colours, MAX_CONDITIONS);
+        let empty = book.empty_value(series);
+        self.clear();
+        write_line(&mut self.draft, &Line::Print { number, empty })?;
+        let next = Task::printing(series, UpTo::new(order, colours));
+        self.job = job_of(self.alloc, next);
+        Ok(())
+    }
+
+    /// Begins the comparison of two series at the trees to an order. Where their empty values differ the reply is whole at once.
+    pub(crate) fn equal(
+        &mut self,
+        book: &Book,
+        left: SeriesId,
+        right: SeriesId,
+        order: usize,
+    ) -> Result<(), AllocError>
+        requires left { left < length book.now }
+        requires right { right < length book.now }
+        requires same_colours { colours_of (series_at book.now left) ≡ colours_of (series_at book.now right) }
+        requires few_nodes { order ≤ MAX_NODES }
+        ensures reply { (tables : List Table) → OnOk result (whole_reply tables book.now self.new ≡ equal_reply tables (series_at book.now left) (series_at book.now right) order) }
+        ensures work { (tables : List Table) → OnOk result (IsWork tables book.now self.new) }
+        ensures nearer { OnOk result (work_left book.now self.new ≤ turns_to_compare (series_at book.now left) (series_at book.now right) order) }
+    {
+        let first = book.empty_value(left);
+        let second = book.empty_value(right);
+        let colours = usize::from(book.colours(left));
+        self.clear();
+        if first != second {
+            return write_line(
+                &mut self.draft,
+                &Line::EqualEmpty {
+                    left: first,
+                    right: second,
+                },
+            );
+        }
+        let next = Task::comparing(&mut self.draft, left, right, UpTo::new(order, colours))?;
+        self.job = job_of(self.alloc, next);
+        Ok(())
+    }
+
+    /// Goes on until something is to be asked. `None` where the reply is whole. Where memory runs out the work is of no use.
+    pub(crate) fn next(
+        &mut self,
+        book: &Book,
+        tables: &[Tableau],
+        found: Option<Coef>,
+    ) -> Result<Option<Step>, AllocError>
+        requires suits { Suits tables.now book.now }
+        requires work { IsWork tables.now book.now self.old }
+        requires handed { IsHanded tables.now book.now self.old found }
+        ensures reply { OnOk result (whole_reply tables.now book.now self.new ≡ whole_reply tables.now book.now self.old) }
+        ensures work { OnOk result (IsWork tables.now book.now self.new) }
+        ensures steps { IfOk result (λ step. IfSome step (StepsOn tables.now book.now self.new)) }
+        ensures nearer { IfOk result (λ step. IfSome step (λ _. work_left book.now self.new < work_left book.now self.old)) }
+        ensures whole { IfOk result (λ step. IfNone step (self.new.draft.items ≡ whole_reply tables.now book.now self.old)) }
+    {
+        self.go_on::<Brand>(book, tables, found, Blank::new(1))
+    }
+
+    /// One coefficient after another, until something is to be asked.
+    fn go_on<L: Ledger>(
+        &mut self,
+        book: &Book,
+        tables: &[Tableau],
+        mut found: Option<Coef>,
+        blank: Blank,
+    ) -> Result<Option<Step>, AllocError>
+        requires name { blank.name ≡ L.name }
+        requires parts { blank.parts ≡ L.parts }
+        requires some { 0 < blank.parts }
+        requires suits { Suits tables.now book.now }
+        requires work { IsWork tables.now book.now self.old }
+        requires handed { IsHanded tables.now book.now self.old found }
+        ensures reply { OnOk result (whole_reply tables.now book.now self.new ≡ whole_reply tables.now book.now self.old) }
+        ensures work { OnOk result (IsWork tables.now book.now self.new) }
+        ensures steps { IfOk result (λ step. IfSome step (StepsOn tables.now book.now self.new)) }
+        ensures nearer { IfOk result (λ step. IfSome step (λ _. work_left book.now self.new < work_left book.now self.old)) }
+        ensures whole { IfOk result (λ step. IfNone step (self.new.draft.items ≡ whole_reply tables.now book.now self.old)) }
+    {
+        let mut steps = Steps::<L>::new(blank);
+        'coefficients: while self.job.is_some() {
+            if let Some(step) = self.turn(book, tables, found, &mut steps)? {
+                return Ok(Some(step));
+            }
+            found = None;
+        }
+        Ok(None)
+    }
+
+    /// The next question of the job, which stays in its place. `None` where its value has come: the draft then tells it, and the
+    /// next job, if one is left, is the work's.
+    fn turn<L: Ledger>(
+        &mut self,
+        book: &Book,
+        tables: &[Tableau],
+        found: Option<Coef>,
+        steps: &mut Steps<L>,
+    ) -> Result<Option<Step>, AllocError>
+        requires suits { Suits tables.now book.now }
+        requires job { IsSome self.old.job }
+        requires work { IsWork tables.now book.now self.old }
+        requires handed { IsHanded tables.now book.now self.old found }
+        ensures reply { OnOk result (whole_reply tables.now book.now self.new ≡ whole_reply tables.now book.now self.old) }
+        ensures work { OnOk result (IsWork tables.now book.now self.new) }
+        ensures steps { IfOk result (λ step. IfSome step (StepsOn tables.now book.now self.new)) }
+        ensures nearer { OnOk result (work_left book.now self.new < work_left book.now self.old) }
+    {
+        match &mut self.job {
+            None => Ok(None),
+            Some(job) => match job.eval.next(book, tables, found, steps)? {
+                Ask::Look { series, code } => Ok(Some(Step::Look { series, code })),
+                Ask::Keep { series, code, coef } => Ok(Some(Step::Keep { series, code, coef })),
+                Ask::Done { coef } => {
+                    self.tell(coef)?;
+                    Ok(None)
+                }
+            },
+        }
+    }
+
+    /// Hands the value that has come to the task of the job. The next job, if one is left, is the work's.
+    fn tell(&mut self, coef: Coef) -> Result<(), AllocError>
+        ensures reply { (tables : List Table) (es : List Series) → IfSome self.old.job (λ job. coef ≡ value_at_pair tables es (pair_of job.task)) → OnOk result (whole_reply tables es self.new ≡ whole_reply tables es self.old) }
+        ensures work { (tables : List Table) (es : List Series) → IfSome self.old.job (λ job. IsTask es job.task) → OnOk result (IsWork tables es self.new) }
+        ensures nearer { (es : List Series) → IfSome self.old.job (λ job. OnOk result (work_left es self.new ≤ turns_behind es job.task)) }
+    {
+        let Some(job) = self.job.take() else {
+            return Ok(());
+        };
+        let Job { eval: _eval, task } = job;
+        let next = task.take(coef, &mut self.draft)?;
+        self.job = job_of(self.alloc, next);
+        Ok(())
+    }
+}
