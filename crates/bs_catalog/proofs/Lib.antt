@@ -1,0 +1,8 @@
+mod RowLists
+mod Merging
+mod FirstChild
+mod RowLaws
+mod Tables
+mod Remembering
+mod Putting
+mod Shelving

@@ -1,0 +1,268 @@
+//! Trees by number. Contracts see a `Catalog` as a shelf of codes and of rows.
+ghost use Rattle.std.specs.Prelude.{◌≡◌, ◌<◌, ◌⊎◌, ◌↔◌, IsTrue, ℕ, [], ◌∷◌, length, OnOk, IfOk, Some, slice_get};
+ghost use Rattle.bs_tree.specs.Code.{child_codes};
+ghost use Rattle.bs_catalog.specs.Making.{without_first};
+ghost use Rattle.bs_catalog.specs.Shelf.{Code as Pairs, Numbers, AreRows, split_rows, part_rows, rows_at, HasSplits, HasParts, Grows};
+
+use crate::arena::{Arena, without_first};
+use crate::making::{leaf_parts, leaf_splits, parts_by, splits_by};
+use crate::rows::Rows;
+use bs_tree::Code;
+use std::alloc::{AllocError, Global};
+use std::marker::Model;
+
+/// Trees by number, with what is made of them: at each number the rows of its splittings and of its partitions, none where
+/// they are not made.
+#[derive(Drop)]
+pub struct Catalog {
+    alloc: Global,
+    arena: Arena,
+    split_lists: Vec<Rows>,
+    part_lists: Vec<Rows>,
+}
+
+impl Model for Catalog {
+    ghost use Rattle.bs_catalog.specs.Shelf.{Shelf, split_rows, part_rows};
+    ghost use Rattle.bs_catalog.specs.Memo.{HoldsRows};
+
+    ghost Value = { Shelf };
+
+    ghost view = { λ a. record { codes = a.arena; splits = a.split_lists.items; parts = a.part_lists.items } };
+
+    ghost invariant = { λ a. HoldsRows split_rows a.arena a.split_lists.items × HoldsRows part_rows a.arena a.part_lists.items };
+}
+
+/// Whether there are rows at a number.
+fn has_rows(lists: &[Rows], number: u32) -> bool
+    ensures { IsTrue result ↔ (0 < length (rows_at lists.now number)) }
+{
+    match lists.get(number as usize) {
+        Some(rows) => rows.len() > 0,
+        None => false,
+    }
+}
+
+/// Puts empty lists last, so that there is one at this place.
+fn grow(alloc: Global, lists: &mut Vec<Rows>, place: usize) -> Result<(), AllocError>
+    ensures same { (n : ℕ) → rows_at lists.new.items n ≡ rows_at lists.old.items n }
+    ensures reached { OnOk result (place < length lists.new.items) }
+{
+    'fill: while lists.len() <= place {
+        lists.push(Rows::new(alloc))?;
+    }
+    Ok(())
+}
+
+/// Puts the rows at a number.
+fn put_rows(alloc: Global, lists: &mut Vec<Rows>, number: u32, rows: Rows) -> Result<(), AllocError>
+    ensures put { OnOk result (rows_at lists.new.items number ≡ rows) }
+    ensures others { (n : ℕ) → (rows_at lists.new.items n ≡ rows_at lists.old.items n) ⊎ ((n ≡ number) × (rows_at lists.new.items n ≡ rows)) }
+{
+    grow(alloc, lists, number as usize)?;
+    lists[number as usize] = rows;
+    Ok(())
+}
+
+impl Catalog {
+    /// No tree. Takes no memory.
+    pub fn new(alloc: Global) -> Catalog
+        ensures codes { result.codes ≡ [] }
+        ensures splits { result.splits ≡ [] }
+        ensures parts { result.parts ≡ [] }
+    {
+        Catalog {
+            alloc,
+            arena: Arena::new(alloc),
+            split_lists: Vec::new(alloc),
+            part_lists: Vec::new(alloc),
+        }
+    }
+
+    /// The code of a number.
+    pub fn code(&self, number: u32) -> Code
+        requires { number < length self.now.codes }
+        ensures { Numbers self.now.codes number result }
+    {
+        self.arena.code(number)
+    }
+
+    /// The number of a code.
+    pub fn number(&mut self, code: &Code) -> Result<u32, AllocError>
+        ensures grows { Grows self.old self.new }
+        ensures is { IfOk result (λ n. Numbers self.new.codes n code.now) }
+    {
+        self.arena.number(code)
+    }
+
+    fn has_splits(&self, number: u32) -> bool
+        ensures { IsTrue result ↔ HasSplits self.now number }
+    {
+        has_rows(&self.split_lists, number)
+    }
+
+    /// Puts the rows of the splittings of a tree of one node.
+    fn put_leaf_splits(&mut self, number: u32, code: &Code) -> Result<(), AllocError>
+        requires code { Numbers self.old.codes number code.now }
+        requires leaf { length (child_codes code.now) ≡ 0 }
+        ensures grows { Grows self.old self.new }
+        ensures made { OnOk result (HasSplits self.new number) }
+    {
+        let _order = code.order();
+        let rows = leaf_splits(self.alloc, number)?;
+        put_rows(self.alloc, &mut self.split_lists, number, rows)
+    }
+
+    /// Puts the rows of the splittings of a tree, from those of its first child and of the tree without it.
+    fn put_splits(
+        &mut self,
+        number: u32,
+        code: &Code,
+        child: u32,
+        rest: u32,
+    ) -> Result<(), AllocError>
+        requires code { Numbers self.old.codes number code.now }
+        requires child { (x : Pairs) × (slice_get (child_codes code.now) 0 ≡ Some x) × Numbers self.old.codes child x }
+        requires rest { Numbers self.old.codes rest (without_first code.now) }
+        requires kids { HasSplits self.old child }
+        requires others { HasSplits self.old rest }
+        ensures grows { Grows self.old self.new }
+        ensures made { OnOk result (HasSplits self.new number) }
+    {
+        let _order = code.order();
+        let rows = splits_by(
+            self.alloc,
+            &mut self.arena,
+            child,
+            &self.split_lists[child as usize],
+            &self.split_lists[rest as usize],
+        )?;
+        put_rows(self.alloc, &mut self.split_lists, number, rows)
+    }
+
+    /// Makes the rows of a tree's splittings, where they are not made, from those of smaller trees.
+    fn shelve_splits(&mut self, number: u32, code: &Code) -> Result<(), AllocError>
+        requires { Numbers self.old.codes number code.now }
+        ensures grows { Grows self.old self.new }
+        ensures made { OnOk result (HasSplits self.new number) }
+    {
+        if self.has_splits(number) {
+            return Ok(());
+        }
+        if code.arity() == 0 {
+            return self.put_leaf_splits(number, code);
+        }
+        let first = code.child(0);
+        let Some(later) = without_first(code) else {
+            return Err(AllocError);
+        };
+        let child = self.number(&first)?;
+        self.shelve_splits(child, &first)?;
+        let rest = self.number(&later)?;
+        self.shelve_splits(rest, &later)?;
+        self.put_splits(number, code, child, rest)
+    }
+
+    /// Makes the rows of a tree's splittings, where they are not made.
+    pub fn make_splits(&mut self, number: u32) -> Result<(), AllocError>
+        requires { number < length self.old.codes }
+        ensures grows { Grows self.old self.new }
+        ensures made { OnOk result (HasSplits self.new number) }
+    {
+        let code = self.code(number);
+        self.shelve_splits(number, &code)
+    }
+
+    /// The splittings of a tree that keep the root, in their order: for each the number of what is kept, and those of the trees
+    /// that are cut off.
+    pub fn splits(&self, number: u32) -> &Rows
+        requires { HasSplits self.now number }
+        ensures { (code : Pairs) → Numbers self.now.codes number code → AreRows self.now.codes result.now (split_rows code) }
+    {
+        &self.split_lists[number as usize]
+    }
+
+    fn has_parts(&self, number: u32) -> bool
+        ensures { IsTrue result ↔ HasParts self.now number }
+    {
+        has_rows(&self.part_lists, number)
+    }
+
+    /// Puts the rows of the partitions of a tree of one node.
+    fn put_leaf_parts(&mut self, number: u32, code: &Code) -> Result<(), AllocError>
+        requires code { Numbers self.old.codes number code.now }
+        requires leaf { length (child_codes code.now) ≡ 0 }
+        ensures grows { Grows self.old self.new }
+        ensures made { OnOk result (HasParts self.new number) }
+    {
+        let _order = code.order();
+        let rows = leaf_parts(self.alloc, &mut self.arena, number)?;
+        put_rows(self.alloc, &mut self.part_lists, number, rows)
+    }
+
+    /// Puts the rows of the partitions of a tree, from those of its first child and of the tree without it.
+    fn put_parts(
+        &mut self,
+        number: u32,
+        code: &Code,
+        child: u32,
+        rest: u32,
+    ) -> Result<(), AllocError>
+        requires code { Numbers self.old.codes number code.now }
+        requires child { (x : Pairs) × (slice_get (child_codes code.now) 0 ≡ Some x) × Numbers self.old.codes child x }
+        requires rest { Numbers self.old.codes rest (without_first code.now) }
+        requires kids { HasParts self.old child }
+        requires others { HasParts self.old rest }
+        ensures grows { Grows self.old self.new }
+        ensures made { OnOk result (HasParts self.new number) }
+    {
+        let _order = code.order();
+        let rows = parts_by(
+            self.alloc,
+            &mut self.arena,
+            &self.part_lists[child as usize],
+            &self.part_lists[rest as usize],
+        )?;
+        put_rows(self.alloc, &mut self.part_lists, number, rows)
+    }
+
+    /// Makes the rows of a tree's partitions, where they are not made, from those of smaller trees.
+    fn shelve_parts(&mut self, number: u32, code: &Code) -> Result<(), AllocError>
+        requires { Numbers self.old.codes number code.now }
+        ensures grows { Grows self.old self.new }
+        ensures made { OnOk result (HasParts self.new number) }
+    {
+        if self.has_parts(number) {
+            return Ok(());
+        }
+        if code.arity() == 0 {
+            return self.put_leaf_parts(number, code);
+        }
+        let first = code.child(0);
+        let Some(later) = without_first(code) else {
+            return Err(AllocError);
+        };
+        let child = self.number(&first)?;
+        self.shelve_parts(child, &first)?;
+        let rest = self.number(&later)?;
+        self.shelve_parts(rest, &later)?;
+        self.put_parts(number, code, child, rest)
+    }
+
+    /// Makes the rows of a tree's partitions, where they are not made.
+    pub fn make_parts(&mut self, number: u32) -> Result<(), AllocError>
+        requires { number < length self.old.codes }
+        ensures grows { Grows self.old self.new }
+        ensures made { OnOk result (HasParts self.new number) }
+    {
+        let code = self.code(number);
+        self.shelve_parts(number, &code)
+    }
+
+    /// The partitions of a tree, in their order: for each the number of the skeleton, and those of the parts.
+    pub fn parts(&self, number: u32) -> &Rows
+        requires { HasParts self.now number }
+        ensures { (code : Pairs) → Numbers self.now.codes number code → AreRows self.now.codes result.now (part_rows code) }
+    {
+        &self.part_lists[number as usize]
+    }
+}

@@ -1,0 +1,14 @@
+//! Trees by number, each with the lists of its splittings and of its partitions by the numbers of their trees, made once.
+#![tactic(auto)]
+
+mod arena;
+mod catalog;
+mod making;
+mod memo;
+mod rows;
+#[cfg(test)]
+mod tests;
+mod way;
+
+pub use catalog::Catalog;
+pub use rows::Rows;
