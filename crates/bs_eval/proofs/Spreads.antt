@@ -81,7 +81,7 @@ spread_small (grow c kids rest) =
     let e : 2 ^ (suc (nodes kids) + nodes rest) ≡ 2 ^ nodes kids * (2 * 2 ^ nodes rest) = pow-add 2 (suc (nodes kids)) (nodes rest) ∙ (let z : 2 ^ suc (nodes kids) ≡ 2 ^ nodes kids * 2 = ap (λ (n : ℕ). 2 ^ n) (let y : suc (nodes kids) ≡ nodes kids + 1 = omega arith in y) ∙ pow-add 2 (nodes kids) 1 in ap (λ (n : ℕ). n * 2 ^ nodes rest) z ∙ (let y : 2 ^ nodes kids * 2 * 2 ^ nodes rest ≡ 2 ^ nodes kids * (2 * 2 ^ nodes rest) = omega arith in y)) in
     subst (λ (m : ℕ). suc (suc (arity rest)) * (k * arities rest) ≤ m) (sym e) (omega (arith, a, b))
 
-pow_small : (n : ℕ) → n < 17 → 2 ^ n ≤ 2 ^ 16
+pub pow_small : (n : ℕ) → n < 17 → 2 ^ n ≤ 2 ^ 16
 pow_small n h = let e = pow-add 2 n (16 - n) in let z : n + (16 - n) ≡ 16 = omega arith in
     subst (λ (m : ℕ). 2 ^ n ≤ 2 ^ m) z (subst (λ (m : ℕ). 2 ^ n ≤ m) (sym e) (let p = mul-le (2 ^ n) 1 (2 ^ n) (2 ^ (16 - n)) (omega arith) (one_le (16 - n)) in omega (arith, p)))
   where

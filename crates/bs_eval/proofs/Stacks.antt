@@ -3,18 +3,18 @@ use Rattle.std.proofs.Common.{◌≡◌, ℕ, zero, suc, ◌+◌, List, take, []
 use Rattle.std.proofs.lemmas.List.{take_all, take_more}
 use Rattle.bs_tableau.specs.Table.{Table}
 use Rattle.bs_series.specs.Series.{Series}
-use Rattle.bs_eval.specs.Frames.{IsOn, Awaits}
+use Rattle.bs_eval.specs.Frames.{pair_of, IsOn, Awaits}
 use Rattle.bs_eval.specs.Machine.{Stands}
-use Rattle.bs_eval.specs.declared.frame.Pair.{Pair}
+use Rattle.bs_eval.specs.declared.pair.Pair.{Pair}
 use Rattle.bs_eval.specs.declared.frame.Frame.{Frame}
 
-pub stands_push : (tables : List Table) (es : List Series) (of : Pair) (fs : List Frame) (f : Frame) (p : Pair) → Stands tables es of fs f.pair → Awaits es f p → IsOn tables es f
+pub stands_push : (tables : List Table) (es : List Series) (of : Pair) (fs : List Frame) (f : Frame) (p : Pair) → Stands tables es of fs (pair_of f) → Awaits es f p → IsOn tables es f
     → Stands tables es of (fs ++ f ∷ []) p
 stands_push tables es of [] f p h a on = (p, record { of = sym h; awaits = a; on = on }, refl)
 stands_push tables es of (g ∷ gs) f p h a on = (h.0, h.1, stands_push tables es h.0 gs f p h.2 a on)
 
 pub record Popped (tables : List Table) (es : List Series) (of : Pair) (fs : List Frame) (f : Frame) (p : Pair) : Type 0 where
-  pub stands : Stands tables es of fs f.pair
+  pub stands : Stands tables es of fs (pair_of f)
   pub awaits : Awaits es f p
   pub on : IsOn tables es f
 

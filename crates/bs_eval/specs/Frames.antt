@@ -1,93 +1,113 @@
 -- Values in the making.
 --
---   IsLooked s        == the values of the series are looked up: it is no exact flow, identity or average
---   IsPair es p       == the id is one of the book, and the values of its series are looked up
---   pair_in f         == the series and the tree of a factor
---   awaited f         == those of the first factor of a frame's term whose value is not known yet
---   value_at_pair tables es p == the written value of a pair of an id and a code
---   FrameIn n f       == each id of the frame is below n
---   Knows look es fs vs == vs are the values of the first of these factors
---   GoesOn tables es f  == the steps that are left bring the frame's sum to the written value of its pair
+--   pair_of f         == the series and the tree of a frame
+--   wanted_pair cs w  == the series and the tree of a pair by number
+--   steps_at es f     == the steps of its plan
+--   factors_at es f   == the factors of the step at its place, none behind the last
+--   awaited f         == the first factor whose value is not known yet
+--   extended x o v    == a product of the first values of a term with one more value; of a divisor the value itself
+--   IsFactorOf es p f == the factor is the series of the pair at its tree, or that with the sign of the tree's order
+--   HasFactor es fs k p == so is the factor at this place
+--   IsReady s         == each factor of a step has the colours of its tree, and a divisor is one factor
+--   IsPlanned es id code == the id is one of the book, its series has a plan, and the steps of it at the tree are ready, and not many
 --   HasCome tables es r f == after a step of a frame: it awaits a value, or has come to its own
---   Awaits es f p       == the frame awaits the value of a pair that is looked up
---   IsOn tables es f    == the same with the term that is being worked out before them, whose first values are known
+--   IsOn tables es f  == the steps that are left bring the frame's sum to the written value of its pair, and its product is that of
+--                        the values of the first factors
+--   Awaits es f p     == the frame awaits the value of a pair that is looked up
+--   IsAwaited es cs f w == the same of a pair by number
+--   IsPlaced es m f   == the frame's numbers stand for its tree and the leaf, and the rows of its plan are made
 --
 -- Source: this project.
-use Rattle.std.specs.Prelude.{◌≡◌, ℕ, ◌<◌, List, take, length, Option, Some, None, slice_get}
+use Rattle.std.specs.Prelude.{◌≡◌, ℕ, ◌<◌, ◌≤◌, ◌⊎◌, ◌^◌, List, [], take, drop, length, Option, Some, None, slice_get}
 use Rattle.std.specs.List.{AllByRecursion}
+use Rattle.bs_frac.specs.Written.{checked}
 use Rattle.bs_frac.specs.declared.coef.Coef.{Coef}
 use Rattle.bs_tableau.specs.Table.{Table}
-use Rattle.bs_series.specs.Series.{Series, exact, identity, average, colours_of}
-use Rattle.bs_series.specs.SeriesCode.{IsColouredCode, HasItsColours, written_at}
+use Rattle.bs_series.specs.Series.{Series}
+use Rattle.bs_series.specs.Plan.{Factor, at, turned, HasPlan}
+use Rattle.bs_series.specs.SeriesCode.{Code, written_at}
 use Rattle.bs_series.specs.Expressions.{series_at}
-use Rattle.bs_eval.specs.Steps.{Step, factor_in, step_in, factors_in, values, with_step, carried}
-use Rattle.bs_eval.specs.Left.{plan_left, TermIn, PlanIn}
-use Rattle.bs_eval.specs.declared.factor.Factor.{Factor as CodeFactor}
-use Rattle.bs_eval.specs.declared.factor.Factor.TheVariants as factor
-use Rattle.bs_eval.specs.declared.frame.Pair.{Pair}
+use Rattle.bs_eval.specs.Steps.{Step, values, carried, so_far}
+use Rattle.bs_eval.specs.Pairs.{IsPair, value_at_pair}
+use Rattle.bs_eval.specs.Terms.{steps_of, code_at, StepFits, IsSpot}
+use Rattle.bs_eval.specs.declared.factor.Wanted.{Wanted}
+use Rattle.bs_eval.specs.declared.term.Operation.{Operation}
+use Rattle.bs_eval.specs.declared.term.Operation.TheVariants.{Add, Subtract, Divide}
+use Rattle.bs_eval.specs.declared.pair.Pair.{Pair}
 use Rattle.bs_eval.specs.declared.frame.Frame.{Frame}
+use Rattle.bs_eval.specs.declared.memory.Memory.{Memory}
 
-abbrev pub IsLooked : Series → Type 0
-IsLooked (exact k) = ⊥
-IsLooked (identity k) = ⊥
-IsLooked (average k) = ⊥
-IsLooked _ = Unit {0}
+abbrev pub pair_of : Frame → Pair
+pair_of f = record { series = f.spot.series; code = f.code }
 
--- a pair whose value is looked up
-pub record IsPair (es : List Series) (p : Pair) : Type 0 where
-  pub in_book : p.series < length es
-  pub looked : IsLooked (series_at es p.series)
-  pub coloured : IsColouredCode (colours_of (series_at es p.series)) p.code
+abbrev pub wanted_pair : List Code → Wanted → Pair
+wanted_pair cs w = record { series = w.series; code = code_at cs w.tree }
 
-abbrev pub pair_in : CodeFactor → Option Pair
-pair_in (factor.Fixed v) = None
-pair_in (factor.Flow code) = None
-pair_in (factor.At id code) = Some (record { series = id; code = code })
-pair_in (factor.Turned id code) = Some (record { series = id; code = code })
+abbrev pub steps_at : List Series → Frame → List Step
+steps_at es f = steps_of (series_at es f.spot.series) f.code
 
-abbrev pub then_pair : Option CodeFactor → Option Pair
-then_pair None = None
-then_pair (Some f) = pair_in f
+abbrev pub step_factors : Option Step → List (Factor Code)
+step_factors None = []
+step_factors (Some s) = s.factors
 
--- of the factor at a place
-abbrev pub awaited_at : List CodeFactor → ℕ → Option Pair
-awaited_at fs place = then_pair (slice_get fs place)
+abbrev pub factors_at : List Series → Frame → List (Factor Code)
+factors_at es f = step_factors (slice_get (steps_at es f) f.place)
 
-abbrev pub awaited : Frame → Option Pair
-awaited f = awaited_at f.term.factors.items (length f.known)
+abbrev pub awaited : List Series → Frame → Option (Factor Code)
+awaited es f = slice_get (factors_at es f) f.known
 
-abbrev pub value_at_pair : List Table → List Series → Pair → Coef
-value_at_pair tables es p = written_at tables (series_at es p.series) p.code
+abbrev pub IsFactorOf : List Series → Pair → Factor Code → Type 0
+IsFactorOf es p f = (f ≡ at (series_at es p.series) p.code) ⊎ (f ≡ turned (series_at es p.series) p.code)
 
-abbrev pub FactorFits : List Series → CodeFactor → Type 0
-FactorFits es f = HasItsColours (factor_in es f)
+pub record HasFactor (es : List Series) (fs : List (Factor Code)) (k : ℕ) (p : Pair) : Type 0 where
+  pub factor : Factor Code
+  pub is : slice_get fs k ≡ Some factor
+  pub of : IsFactorOf es p factor
 
-abbrev pub StepFits : Step → Type 0
-StepFits s = AllByRecursion HasItsColours s.factors
+-- ---- products
+abbrev pub extended : Coef → Operation → Coef → Coef
+extended x Add v = checked.product x v
+extended x Subtract v = checked.product x v
+extended x Divide v = v
 
-pub record FrameIn (es : List Series) (f : Frame) : Type 0 where
-  pub pair : f.pair.series < length es
-  pub term : TermIn (length es) f.term
-  pub plan : PlanIn (length es) f.plan
-  pub term_fits : AllByRecursion (FactorFits es) f.term.factors.items
-  pub plan_fits : AllByRecursion StepFits (plan_left es f.plan)
-
-abbrev pub Knows : List Table → List Series → List CodeFactor → List Coef → Type 0
-Knows tables es fs vs = vs ≡ values (written_at tables) (factors_in es (take (length vs) fs))
-
-abbrev pub GoesOn : List Table → List Series → Frame → Type 0
-GoesOn tables es f = carried (written_at tables) f.sum (plan_left es f.plan) ≡ value_at_pair tables es f.pair
+-- the values of the first factors of the step at hand, where there is one
+abbrev pub ProductIs : List Table → List Series → Coef → ℕ → Option Step → Type 0
+ProductIs tables es x known None = Unit {0}
+ProductIs tables es x known (Some s) = (known ≤ length s.factors) × (x ≡ so_far s.operation (take known (values (written_at tables) s.factors)))
 
 pub record IsOn (tables : List Table) (es : List Series) (f : Frame) : Type 0 where
-  pub known : Knows tables es f.term.factors.items f.known
-  pub comes_to : carried (written_at tables) (with_step (written_at tables) f.sum (step_in es f.term)) (plan_left es f.plan) ≡ value_at_pair tables es f.pair
+  pub comes_to : carried (written_at tables) f.sum (drop f.place (steps_at es f)) ≡ value_at_pair tables es (pair_of f)
+  pub product : ProductIs tables es f.product f.known (slice_get (steps_at es f) f.place)
 
--- after a step of a frame: it awaits a value, or has come to its own
-abbrev pub HasCome : List Table → List Series → Option Pair → Frame → Type 0
-HasCome tables es None f = f.sum ≡ value_at_pair tables es f.pair
-HasCome tables es (Some p) f = IsOn tables es f
+-- ---- the steps of a plan
+abbrev pub IsAlone : Operation → List (Factor Code) → Type 0
+IsAlone Add fs = Unit {0}
+IsAlone Subtract fs = Unit {0}
+IsAlone Divide fs = length fs ≡ 1
+
+pub record IsReady (s : Step) : Type 0 where
+  pub fits : StepFits s
+  pub divisor : IsAlone s.operation s.factors
+
+pub record IsPlanned (es : List Series) (id : ℕ) (code : Code) : Type 0 where
+  pub in_book : id < length es
+  pub planned : HasPlan (series_at es id)
+  pub ready : AllByRecursion IsReady (steps_of (series_at es id) code)
+  pub few : length (steps_of (series_at es id) code) < 2 ^ 20
+
+-- ---- after a step of a frame
+abbrev pub HasCome : List Table → List Series → Option Wanted → Frame → Type 0
+HasCome tables es None f = f.sum ≡ value_at_pair tables es (pair_of f)
+HasCome tables es (Some w) f = IsOn tables es f
 
 pub record Awaits (es : List Series) (f : Frame) (p : Pair) : Type 0 where
-  pub in_book : FrameIn es f
-  pub is : awaited f ≡ Some p
+  pub frame : IsPlanned es f.spot.series f.code
   pub pair : IsPair es p
+  pub factor : HasFactor es (factors_at es f) f.known p
+
+pub record IsAwaited (es : List Series) (cs : List Code) (f : Frame) (w : Wanted) : Type 0 where
+  pub number : w.tree < length cs
+  pub awaits : Awaits es f (wanted_pair cs w)
+
+abbrev pub IsPlaced : List Series → Memory → Frame → Type 0
+IsPlaced es m f = IsSpot es m.trees f.spot f.code

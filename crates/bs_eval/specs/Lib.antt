@@ -1,7 +1,9 @@
 pub mod Spread
 pub mod Steps
-pub mod ButLast
-pub mod Left
+pub mod Pairs
+pub mod Terms
+pub mod Rules
+pub mod Values
 pub mod Frames
 pub mod Machine
 pub mod Turns

@@ -1,44 +1,28 @@
--- A plan as the steps that its sum goes through, and its factors with the ids of a book for expressions.
+-- A plan as the steps that its sum goes through.
 --
 --   Step               == an operation on the sum and the factors of its term
---   factor_in es f     == the factor that the code's factor stands for over the expressions of a book
---   step_in es t       == the step that the code's term stands for
 --   plan_steps p       == the terms of a plan, added or subtracted, and then its divisor
 --   values look fs     == the values of factors, `look` giving those of series at trees
 --   applied z o vs     == z with the product of vs added or subtracted, or z divided by the only value
 --   carried look z steps == z with each step applied in turn
 --   over v z           == z divided by v, Overflow where v is 0
+--   so_far o vs        == the product of the first values of a term, 1 of none; of a divisor the value itself
+--   brought z o x      == z with such a product added or subtracted, or divided by it
 --
 -- Source: this project. Division by 0 has a value here so that every step has one; no plan of a series that suits its tableaux divides by 0.
 use Rattle.std.specs.Prelude.{zero, suc, List, [], ◌∷◌, ◌++◌, map, Option, Some, None, Bool, true, false, cond, fold, ℤ, pos, negsuc}
 use Rattle.bs_frac.specs.Written.{Term, add, subtract, checked, product_all}
 use Rattle.bs_frac.specs.declared.coef.Coef.{Coef}
 use Rattle.bs_frac.specs.declared.coef.Coef.TheVariants.{Value, Overflow}
-use Rattle.bs_series.specs.Series.{Series, exact}
+use Rattle.bs_series.specs.Series.{Series}
 use Rattle.bs_series.specs.Plan.{Factor, fixed, at, turned, Plan}
 use Rattle.bs_series.specs.SeriesCode.{Code, factor_at}
-use Rattle.bs_series.specs.Expressions.{series_at}
-use Rattle.bs_eval.specs.declared.factor.Factor.{Factor as CodeFactor}
-use Rattle.bs_eval.specs.declared.factor.Factor.TheVariants as factor
-use Rattle.bs_eval.specs.declared.factor.Operation.{Operation}
-use Rattle.bs_eval.specs.declared.factor.Operation.TheVariants.{Add, Subtract, Divide}
-use Rattle.bs_eval.specs.declared.factor.Term.{Term as CodeTerm}
+use Rattle.bs_eval.specs.declared.term.Operation.{Operation}
+use Rattle.bs_eval.specs.declared.term.Operation.TheVariants.{Add, Subtract, Divide}
 
 pub record Step : Type 0 where
   pub operation : Operation
   pub factors : List (Factor Code)
-
-abbrev pub factor_in : List Series → CodeFactor → Factor Code
-factor_in es (factor.Fixed v) = fixed v
-factor_in es (factor.Flow code) = at (exact 1) code
-factor_in es (factor.At id code) = at (series_at es id) code
-factor_in es (factor.Turned id code) = turned (series_at es id) code
-
-abbrev pub factors_in : List Series → List CodeFactor → List (Factor Code)
-factors_in es fs = map (factor_in es) fs
-
-abbrev pub step_in : List Series → CodeTerm → Step
-step_in es t = record { operation = t.operation; factors = factors_in es t.factors.items }
 
 -- ---- of a plan
 abbrev pub term_step : Term (Factor Code) → Step
@@ -79,3 +63,15 @@ with_step look z s = applied z s.operation (values look s.factors)
 
 abbrev pub carried : (Series → Code → Coef) → Coef → List Step → Coef
 carried look z steps = fold (with_step look) z steps
+
+-- ---- one value after another
+abbrev pub so_far : Operation → List Coef → Coef
+so_far Add vs = product_all checked vs
+so_far Subtract vs = product_all checked vs
+so_far Divide [] = product_all checked []
+so_far Divide (v ∷ vs) = v
+
+abbrev pub brought : Coef → Operation → Coef → Coef
+brought z Add x = checked.sum z x
+brought z Subtract x = checked.difference z x
+brought z Divide x = over x z

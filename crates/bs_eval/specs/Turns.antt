@@ -19,9 +19,9 @@ use Rattle.bs_series.specs.Plan.{Factor, fixed, at, turned}
 use Rattle.bs_series.specs.PlanItems.{needed, is_looked_up}
 use Rattle.bs_series.specs.SeriesCode.{Code}
 use Rattle.bs_series.specs.Expressions.{series_at}
-use Rattle.bs_eval.specs.Steps.{Step, factors_in}
-use Rattle.bs_eval.specs.Left.{plan_left}
-use Rattle.bs_eval.specs.declared.frame.Pair.{Pair}
+use Rattle.bs_eval.specs.Steps.{Step}
+use Rattle.bs_eval.specs.Frames.{steps_at, factors_at}
+use Rattle.bs_eval.specs.declared.pair.Pair.{Pair}
 use Rattle.bs_eval.specs.declared.frame.Frame.{Frame}
 use Rattle.bs_eval.specs.declared.eval.State.{State}
 use Rattle.bs_eval.specs.declared.eval.State.TheVariants.{Begun, Looking, Kept, Ended}
@@ -56,13 +56,13 @@ steps_calls (s ∷ ss) = factors_calls s.factors + steps_calls ss
 
 -- ---- of a frame
 abbrev pub behind : List Series → Frame → ℕ → ℕ
-behind es f n = factors_calls (factors_in es (drop n f.term.factors.items)) + steps_calls (plan_left es f.plan)
+behind es f n = factors_calls (drop n (factors_at es f)) + steps_calls (drop (suc f.place) (steps_at es f))
 
 abbrev pub ahead : List Series → Frame → ℕ
-ahead es f = behind es f (length f.known)
+ahead es f = behind es f f.known
 
 abbrev pub rest : List Series → Frame → ℕ
-rest es f = suc (behind es f (suc (length f.known)))
+rest es f = suc (behind es f (suc f.known))
 
 abbrev pub rests : List Series → List Frame → ℕ
 rests es [] = 0
@@ -71,7 +71,7 @@ rests es (f ∷ fs) = rest es f + rests es fs
 -- ---- of the machine
 abbrev pub left_at : List Series → Pair → List Frame → State → ℕ
 left_at es of fs Begun = suc (pair_calls es of)
-left_at es of fs (Looking p) = rests es fs + pair_calls es p
+left_at es of fs (Looking p n) = rests es fs + pair_calls es p
 left_at es of fs (Kept p v) = suc (rests es fs)
 left_at es of fs Ended = 0
 

@@ -9,7 +9,7 @@ ghost use Rattle.bs_series.specs.Series.{method, colours_of};
 ghost use Rattle.bs_series.specs.Plan.{HasPlan};
 ghost use Rattle.bs_series.specs.SeriesCode.{written_at};
 ghost use Rattle.bs_series.specs.Expressions.{series_at};
-ghost use Rattle.bs_eval.specs.Frames.{IsLooked};
+ghost use Rattle.bs_eval.specs.Pairs.{IsLooked};
 
 use bs_frac::{Coef, Frac};
 use bs_series::{Book, Kind, SeriesId};

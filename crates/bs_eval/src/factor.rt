@@ -1,116 +1,91 @@
-//! Factors and terms of a plan, with the ids of a book in place of expressions.
+//! One factor of a term, and its value where that needs no question.
 
-ghost use Rattle.std.specs.Prelude.{◌≡◌, ◌≤◌, [], ◌∷◌, map, replicate};
-ghost use Rattle.bs_tree.specs.declared.TheConstants.{MAX_NODES as largest_order};
-ghost use Rattle.bs_eval.specs.declared.factor.Factor.TheVariants as factor;
-ghost use Rattle.bs_eval.specs.declared.factor.Operation.TheVariants as operation;
+ghost use Rattle.std.specs.Prelude.{◌≡◌, ◌<◌, List, length, MatchOption, IfSome, IfNone, IsSomeAnd, Some, None, ℕ};
+ghost use Rattle.bs_frac.specs.Written.{checked};
+ghost use Rattle.bs_tableau.specs.Table.{Table};
+ghost use Rattle.bs_series.specs.Series.{Series};
+ghost use Rattle.bs_series.specs.SeriesCode.{Code as Pairs, factor_at, written_at};
+ghost use Rattle.bs_series.specs.Value.{signed_by};
+ghost use Rattle.bs_eval.specs.Terms.{factor_in, wanted_in, FactorIn, FactorFits};
+ghost use Rattle.bs_eval.specs.Values.{AreValues, IsLookedUp, value_of};
 
-use arrayvec::ArrayVec;
-use bs_frac::Frac;
-use bs_series::SeriesId;
-use bs_tree::{Code, CodeList, MAX_NODES};
+use crate::values::Values;
+use bs_catalog::Catalog;
+use bs_frac::{Coef, Frac};
+use bs_series::{Book, SeriesId};
 
-/// The largest number of factors of a term: one for what is kept, or for the skeleton, and one for each tree.
-pub(crate) const MAX_FACTORS: usize = MAX_NODES + 1;
-
-/// A factor of a term.
+/// A factor of a term, its tree by number.
 #[derive(Clone, Copy)]
 pub(crate) enum Factor {
     /// A fraction.
     Fixed { value: Frac },
     /// The exact flow at a tree.
-    Flow { code: Code },
+    Flow { tree: u32 },
     /// A series of the book at a tree.
-    At { series: SeriesId, code: Code },
+    At { series: SeriesId, tree: u32 },
     /// The same with the sign of the tree's order.
-    Turned { series: SeriesId, code: Code },
+    Turned { series: SeriesId, tree: u32 },
 }
 
-impl Default for Factor {
-    fn default() -> Factor {
-        Factor::Fixed {
-            value: Frac::whole(0),
+/// A series at a tree, by the tree's number.
+#[derive(Clone, Copy)]
+pub(crate) struct Wanted {
+    pub(crate) series: SeriesId,
+    pub(crate) tree: u32,
+}
+
+impl Factor {
+    /// The series and the tree whose value the factor has, but for a sign.
+    pub(crate) fn wanted(&self) -> Option<Wanted>
+        ensures { result ≡ wanted_in self.now }
+    {
+        match self {
+            Factor::Fixed { .. } | Factor::Flow { .. } => None,
+            Factor::At { series, tree } | Factor::Turned { series, tree } => Some(Wanted {
+                series: *series,
+                tree: *tree,
+            }),
+        }
+    }
+
+    /// The value of the factor, where that of its series at its tree is handed in.
+    pub(crate) fn handed(&self, trees: &Catalog, value: Coef) -> Coef
+        requires { (n : ℕ) × FactorIn n (length trees.now.codes) self.now }
+        ensures { (tables : List Table) (es : List Series) → IsSomeAnd (wanted_in self.now) (λ wanted. value ≡ value_of tables es trees.now.codes wanted) → result ≡ factor_at checked (written_at tables) (factor_in es trees.now.codes self.now) }
+    {
+        match self {
+            Factor::Turned { tree, .. } => turned(value, trees.code(*tree).order()),
+            Factor::Fixed { .. } | Factor::Flow { .. } | Factor::At { .. } => value,
+        }
+    }
+
+    /// The value of a factor that is remembered, or given by a formula.
+    pub(crate) fn settled(&self, book: &Book, trees: &Catalog, values: &mut Values) -> Option<Coef>
+        requires known { FactorIn (length book.now) (length trees.now.codes) self.now }
+        requires fits { FactorFits book.now trees.now.codes self.now }
+        ensures awaited { IfNone result (IsSomeAnd (wanted_in self.now) (λ wanted. IsLookedUp book.now trees.now.codes wanted)) }
+        ensures value { (tables : List Table) → AreValues tables book.now trees.now.codes values.old → IfSome result (λ value. value ≡ factor_at checked (written_at tables) (factor_in book.now trees.now.codes self.now)) }
+        ensures values { (tables : List Table) → AreValues tables book.now trees.now.codes values.old → AreValues tables book.now trees.now.codes values.new }
+    {
+        match self {
+            Factor::Fixed { value } => Some(Coef::Value(*value)),
+            Factor::Flow { tree } => Some(values.flow(trees, *tree)),
+            Factor::At { series, tree } => values.known(book, trees, *series, *tree),
+            Factor::Turned { series, tree } => {
+                let value = values.known(book, trees, *series, *tree)?;
+                Some(turned(value, trees.code(*tree).order()))
+            }
         }
     }
 }
 
-/// What becomes of the sum with a term.
-#[derive(Clone, Copy)]
-pub(crate) enum Operation {
-    /// The term is added.
-    Add,
-    /// The term is subtracted.
-    Subtract,
-    /// The sum is divided by the term's only factor.
-    Divide,
-}
-
-/// The factors of a term, in their order.
-pub(crate) type Factors = ArrayVec<Factor, MAX_FACTORS>;
-
-/// A product of factors, and what becomes of the sum with it.
-#[derive(Drop)]
-pub(crate) struct Term {
-    pub(crate) operation: Operation,
-    pub(crate) factors: Factors,
-}
-
-/// A term of one factor.
-pub(crate) fn single(operation: Operation, factor: Factor) -> Term
-    ensures operation { result.operation ≡ operation }
-    ensures factors { result.factors.items ≡ factor ∷ [] }
+/// A value with the sign (-1)^order.
+fn turned(value: Coef, order: usize) -> Coef
+    ensures { result ≡ signed_by checked order value }
 {
-    let mut factors = ArrayVec::new();
-    factors.push(factor);
-    Term { operation, factors }
-}
-
-/// Puts a first factor, and a series at each tree of a list, in place of the factors.
-pub(crate) fn put_product(factors: &mut Factors, first: Factor, series: SeriesId, codes: &CodeList)
-    ensures { factors.new.items ≡ first ∷ map (λ code. factor.At series code) codes.now }
-{
-    factors.clear();
-    factors.push(first);
-    'codes: for place in 0..codes.len() {
-        factors.push(Factor::At {
-            series,
-            code: codes.get(place),
-        });
-    }
-}
-
-/// The same with the sign of each tree's order.
-pub(crate) fn put_turned_product(
-    factors: &mut Factors,
-    first: Factor,
-    series: SeriesId,
-    codes: &CodeList,
-)
-    ensures { factors.new.items ≡ first ∷ map (λ code. factor.Turned series code) codes.now }
-{
-    factors.clear();
-    factors.push(first);
-    'codes: for place in 0..codes.len() {
-        factors.push(Factor::Turned {
-            series,
-            code: codes.get(place),
-        });
-    }
-}
-
-/// A term of a first factor that is added, and of a fraction as often as is said.
-pub(crate) fn power(first: Factor, by: Frac, count: usize) -> Term
-    requires { count ≤ largest_order }
-    ensures operation { result.operation ≡ operation.Add }
-    ensures factors { result.factors.items ≡ first ∷ replicate count (factor.Fixed by) }
-{
-    let mut factors = ArrayVec::new();
-    factors.push(first);
-    'factors: for place in 0..count {
-        factors.push(Factor::Fixed { value: by });
-    }
-    Term {
-        operation: Operation::Add,
-        factors,
+    if order % 2 == 1 {
+        value.opposite()
+    } else {
+        value
     }
 }

@@ -5,12 +5,17 @@ mod direct;
 mod eval;
 mod factor;
 mod frame;
-mod items;
-mod known;
+mod memory;
+mod pair;
 mod plan;
+mod table_weights;
+mod term;
 #[cfg(test)]
 mod tests;
+mod values;
 mod whole;
 
 pub use eval::{Ask, Eval};
+pub use memory::Memory;
+pub use table_weights::TableWeights;
 pub use whole::evaluate;

@@ -8,7 +8,7 @@ ghost use Rattle.bs_series.specs.SeriesCode.{written_at};
 ghost use Rattle.bs_series.specs.Accepted.{Suits};
 ghost use Rattle.bs_series.specs.Expressions.{series_at};
 
-use crate::{Ask, Eval};
+use crate::{Ask, Eval, Memory};
 use bs_frac::{Coef, Frac};
 use bs_series::{Book, Kind, SeriesFault, SeriesId};
 use bs_steps::Steps;
@@ -146,11 +146,12 @@ fn evaluated<L: Ledger>(
         return Err("colours differ")?;
     }
     let mut steps = Steps::<L>::new(blank);
+    let mut memory = Memory::new(alloc);
     let mut eval = Eval::start(alloc, series, code);
     let mut kept = Vec::new(alloc);
     let mut found = None;
     'questions: for _ in 0..10000 {
-        match eval.next(book, tables, found, &mut steps)? {
+        match eval.next(book, tables, &mut memory, found, &mut steps)? {
             Ask::Look { series, code } => found = recalled(&kept, series, &code),
             Ask::Keep { series, code, coef } => {
                 remember(&mut kept, room, series, code, coef)?;

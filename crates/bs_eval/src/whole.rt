@@ -7,6 +7,7 @@ ghost use Rattle.bs_series.specs.SeriesCode.{IsColouredCode, written_at};
 ghost use Rattle.bs_series.specs.Expressions.{series_at};
 
 use crate::eval::{Ask, Eval};
+use crate::memory::Memory;
 use bs_frac::Coef;
 use bs_series::{Book, SeriesId};
 use bs_steps::Steps;
@@ -29,9 +30,10 @@ pub fn evaluate<L: Ledger>(
     requires suits { Suits tables.now book.now }
     ensures { IfOk result (λ coef. coef ≡ written_at tables.now (series_at book.now series) code) }
 {
+    let mut memory = Memory::new(alloc);
     let mut eval = Eval::start(alloc, series, code);
     'questions: loop {
-        match eval.next(book, tables, None, steps)? {
+        match eval.next(book, tables, &mut memory, None, steps)? {
             Ask::Look { .. } | Ask::Keep { .. } => {}
             Ask::Done { coef } => return Ok(coef),
         }

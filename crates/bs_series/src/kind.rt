@@ -29,7 +29,8 @@ impl SeriesId {
         SeriesId { place }
     }
 
-    pub(crate) fn place(&self) -> usize
+    /// The place in the book.
+    pub fn place(&self) -> usize
         ensures { result ≡ self.now }
     {
         self.place

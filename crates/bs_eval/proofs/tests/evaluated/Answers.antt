@@ -6,7 +6,7 @@ use Rattle.bs_series.specs.Series.{Series, colours_of}
 use Rattle.bs_series.specs.SeriesCode.{IsColouredCode, written_at}
 use Rattle.bs_series.specs.Expressions.{series_at}
 use Rattle.bs_eval.specs.Machine.{awaiting, asked, IsTruthful, IsTruthfulOf, IsRight, AwaitsAsked}
-use Rattle.bs_eval.specs.declared.frame.Pair.{Pair}
+use Rattle.bs_eval.specs.declared.pair.Pair.{Pair}
 use Rattle.bs_eval.specs.declared.eval.Eval.{Eval}
 use Rattle.bs_eval.specs.declared.tests.Remembered.{Remembered}
 use Rattle.bs_eval.proofs.tests.evaluated.Goals as goal
@@ -24,8 +24,13 @@ pub questions-init : goal.questions-init
 questions-init g c =
     let tables = c.args.tables.now in
     let es = c.args.book.now in
-    let fits : IsColouredCode (colours_of (series_at es c.args.series)) c.args.code = search rules in
-    (c.start-eval.ensures.sound tables es c.requires.known fits, tt, subst (AllWritten tables es) (sym c.new-kept.ensures.items) tt)
+    let fits : IsColouredCode (colours_of (series_at es c.args.series)) c.args.code = search rules in (
+      c.start-eval.ensures.sound tables es c.requires.known fits,
+      tt,
+      subst (AllWritten tables es) (sym c.new-kept.ensures.items) tt,
+      c.start-eval.ensures.held es c.new-memory.result,
+      c.new-memory.ensures tables es,
+    )
 
 pub questions-preserved : goal.questions-preserved
 questions-preserved g c =
@@ -39,11 +44,15 @@ questions-preserved g c =
             c.next.ensures.sound,
             subst (IsTruthful tables es e) (sym w.found-is) (truthful tables es e p w.recalled-found.result a (w.recalled-found.ensures tables es (subst (AllWritten tables es) (sym w.deref.ensures.value) c.questions.invariant.2))),
             subst (λ (v : _). AllWritten tables es v.items) (sym w.kept-is) c.questions.invariant.2,
+            c.next.ensures.held,
+            c.next.ensures.memory,
           )
       | in-Keep+in_ok-remember-in-Keep w ↦ (
         c.next.ensures.sound,
         subst (IsTruthful tables es e) (sym w.found-is) tt,
         subst (λ (v : _). AllWritten tables es v.items) (sym w.kept-is)
             (let right = subst (IsRight tables es (asked c.questions.eval)) w.in-Keep.is c.in_ok-series.ensures.right in w.in_ok-remember-in-Keep.ensures tables es right.1 c.questions.invariant.2),
+        c.next.ensures.held,
+        c.next.ensures.memory,
       )
     ]

@@ -1,0 +1,42 @@
+use Rattle.std.proofs.Common.{◌≡◌, ◌≤◌, ◌<◌, ◌-◌, ◌∙◌, suc, length, map, None, Some, sym, ap, subst, arith}
+use Rattle.bs_catalog.specs.Shelf.{split_rows}
+use Rattle.bs_eval.specs.Terms.{code_at}
+use Rattle.bs_eval.specs.Rules.{IsTermAt, split_steps, part_step, adding, subtracting, every, later, single_step}
+use Rattle.std.proofs.Common.{take}
+use Rattle.bs_frac.specs.Fraction.{Fraction}
+use Rattle.bs_eval.specs.declared.term.Operation.TheVariants.{Subtract}
+use Rattle.bs_eval.specs.Rules.{codes_at}
+use Rattle.bs_eval.proofs.Memories.{numbers_in}
+use Rattle.bs_eval.proofs.Rows.{RowsAre, split_rows_are, part_rows_are, whole_rows, init_rows}
+use Rattle.bs_eval.proofs.SomeItems.{split_rows_some, part_rows_some}
+use Rattle.bs_eval.proofs.RuleSteps.{later_term, inner_term, at_last, last_place}
+use Rattle.bs_eval.proofs.plan.but_last.Goals as goal
+
+pub overflow_sub-count : goal.overflow_sub-count
+overflow_sub-count c =
+    let cs = c.args.trees.now.codes in let code = code_at cs c.args.tree in
+    let ok = split_rows_are cs c.splits-rows.result.now code (c.splits-rows.ensures code (numbers_in cs c.args.tree c.requires.tree)) in
+    let l = ok.count in let s = split_rows_some code in
+    omega (arith, l, s, c.len-count.ensures)
+
+pub term-requires-clause-some : goal.term-requires-clause-some
+term-requires-clause-some c =
+    let cs = c.args.trees.now.codes in let code = code_at cs c.args.tree in
+    let ok = split_rows_are cs c.splits-rows.result.now code (c.splits-rows.ensures code (numbers_in cs c.args.tree c.requires.tree)) in
+    ok.some
+
+pub returns-clause-is : goal.returns-clause-is
+returns-clause-is c = λ es.
+    let cs = c.args.trees.now.codes in let code = code_at cs c.args.tree in
+    let ok = split_rows_are cs c.splits-rows.result.now code (c.splits-rows.ensures code (numbers_in cs c.args.tree c.requires.tree)) in
+    let l = ok.count in let s = split_rows_some code in
+    let e : suc (c.len-count.result - 1) ≡ length c.splits-rows.result.now = omega (arith, l, s, c.len-count.ensures) in
+    subst (λ ls. IsTermAt es cs (split_steps es (subtracting c.args.own c.args.of c.args.turned) code ls) c.args.place c.term.result)
+    (init_rows cs c.splits-rows.result.now (split_rows code) (c.len-count.result - 1) ok e)
+    (subst (λ (w : Fraction). IsTermAt es cs (split_steps es (record { operation = Subtract; kept = c.args.own; empty = w; cut = c.args.of; turned = c.args.turned }) code (take (c.len-count.result - 1) (codes_at cs c.splits-rows.result.now))) c.args.place c.term.result) c.whole.ensures (c.term.ensures.is es cs))
+
+pub returns-clause-known : goal.returns-clause-known
+returns-clause-known c = λ n a b.
+    let cs = c.args.trees.now.codes in let code = code_at cs c.args.tree in
+    let ok = split_rows_are cs c.splits-rows.result.now code (c.splits-rows.ensures code (numbers_in cs c.args.tree c.requires.tree)) in
+    c.term.ensures.known n (length cs) (record { kept = a; cut = b }) c.requires.tree ok.inside
