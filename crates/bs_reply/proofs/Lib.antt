@@ -1,2 +1,1 @@
-mod TreesTexts
 mod TwoValues

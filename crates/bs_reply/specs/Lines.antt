@@ -27,11 +27,11 @@
 --   equal_empty_line e e'         == `equal no empty E E`
 --   difference_text c c'          == `equal no`, or `equal overflow` where one of the two is an overflow
 --   equal_at_line code c c'       == `equal no TREE COEF COEF`, or `equal overflow TREE COEF COEF`
---   line_text line                == the text of any line
+--   line_text line                == the text of any line that is written here; those of splittings that keep the root and of partitions are not
 --
 -- Source: this project's format of replies.
 -- The code appends piece by piece, and takes back what it appended where memory runs out.
-use Rattle.std.specs.Prelude.{ℕ, Bool, true, false, List, ◌++◌, length, flat_map, Option, Some, None, decimal, codes}
+use Rattle.std.specs.Prelude.{ℕ, Bool, true, false, List, [], ◌∷◌, ◌++◌, length, flat_map, Option, Some, None, decimal, codes}
 use Rattle.bs_frac.specs.Fraction.{Fraction}
 use Rattle.bs_frac.specs.Text.{fraction_text}
 use Rattle.bs_frac.specs.declared.coef.Coef.{Coef}
@@ -43,7 +43,7 @@ use Rattle.bs_reply.specs.declared.verdict.Verdict.TheVariants.{Holds, Fails, Un
 use Rattle.bs_reply.specs.declared.line.Word.{Word}
 use Rattle.bs_reply.specs.declared.line.Word.TheVariants.{Trees, Split, Partition, Conditions}
 use Rattle.bs_reply.specs.declared.line.Line.{Line}
-use Rattle.bs_reply.specs.declared.line.Line.TheVariants.{Head, Error, Tree, Drop, Same, Info, Weight, Count, Listed, Split as Splitting, Part, Condition, Order, Series, Coeff, Print, Term, EqualYes, EqualEmpty, EqualAt}
+use Rattle.bs_reply.specs.declared.line.Line.TheVariants.{Head, Error, Tree, Drop, Same, Info, Weight, Count, Listed, NothingKept, Condition, Order, Series, Coeff, Print, Term, EqualYes, EqualEmpty, EqualAt}
 
 abbrev pub coef_text : Coef → List ℕ
 coef_text (Value x) = fraction_text x
@@ -149,8 +149,7 @@ line_text (Info code symmetry density alpha) = info_line code symmetry density a
 line_text (Weight coef) = weight_line coef
 line_text (Count word number) = count_line word number
 line_text (Listed code) = listed_line code
-line_text (Splitting kept forest) = split_line kept forest
-line_text (Part skeleton parts) = part_line skeleton parts
+line_text (NothingKept code) = split_line None (code ∷ [])
 line_text (Condition code coef target) = condition_line code coef target
 line_text (Order number overflow) = order_line number overflow
 line_text (Series name empty colours) = series_line name.now empty colours

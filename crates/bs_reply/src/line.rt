@@ -1,7 +1,7 @@
 //! What a reply line says.
 
 use bs_frac::{Coef, Frac};
-use bs_tree::{Code, CodeList};
+use bs_tree::Code;
 
 /// What a list is of.
 #[derive(Clone, Copy, Debug, PartialEq, Eq)]
@@ -56,15 +56,9 @@ pub enum Line<'a> {
     Listed {
         code: Code,
     },
-    /// A splitting of a tree: what is kept, or nothing, and the trees that are cut off.
-    Split {
-        kept: Option<Code>,
-        forest: CodeList,
-    },
-    /// A partition of a tree: its skeleton, and the parts.
-    Part {
-        skeleton: Code,
-        parts: CodeList,
+    /// The splitting of a tree that keeps nothing: the whole tree is cut off.
+    NothingKept {
+        code: Code,
     },
     /// An order condition: the elementary weight of a method at a tree, and the weight that it has to have.
     Condition {

@@ -3,7 +3,7 @@
 use crate::{Line, Verdict, Word, write_line};
 use bs_frac::{Coef, Frac};
 use bs_levels::read_tree;
-use bs_tree::{Code, CodeList, MAX_NODES};
+use bs_tree::Code;
 use std::alloc::Global;
 use std::test::Fail;
 
@@ -129,70 +129,17 @@ fn lists(rt: HostRuntime) -> Result<(), Fail> {
     Ok(())
 }
 
-/// A list of codes, from a line of levels for each.
-fn codes_of(alloc: Global, lines: &[&str]) -> Result<CodeList, Fail> {
-    let mut codes = CodeList::new();
-    for levels in lines {
-        if codes.len() < MAX_NODES {
-            codes.push(code_of(alloc, levels)?);
-        }
-    }
-    Ok(codes)
-}
-
 #[test]
-fn splittings(rt: HostRuntime) -> Result<(), Fail> {
+fn nothing_kept(rt: HostRuntime) -> Result<(), Fail> {
     let alloc = rt.alloc();
     let coloured = read_tree(alloc, b"1,2", Some(b"0,3".as_slice()))?.code();
     let lines = [
-        Line::Split {
-            kept: None,
-            forest: codes_of(alloc, &["1,2,2"])?,
+        Line::NothingKept {
+            code: code_of(alloc, "1,2,2")?,
         },
-        Line::Split {
-            kept: Some(code_of(alloc, "1")?),
-            forest: codes_of(alloc, &["1", "1"])?,
-        },
-        Line::Split {
-            kept: Some(code_of(alloc, "1,2")?),
-            forest: codes_of(alloc, &["1,2,3", "1"])?,
-        },
-        Line::Split {
-            kept: Some(code_of(alloc, "1,2,2")?),
-            forest: CodeList::new(),
-        },
-        Line::Split {
-            kept: Some(coloured),
-            forest: CodeList::new(),
-        },
+        Line::NothingKept { code: coloured },
     ];
-    let text = b"empty | 1,2,2\n1 | 1 1\n1,2 | 1,2,3 1\n1,2,2 |\n1,2:0,3 |\n";
-    assert_eq!(rt; text_of(alloc, &lines)?.as_slice(), text.as_slice());
-    Ok(())
-}
-
-#[test]
-fn partitions(rt: HostRuntime) -> Result<(), Fail> {
-    let alloc = rt.alloc();
-    let lines = [
-        Line::Part {
-            skeleton: code_of(alloc, "1")?,
-            parts: codes_of(alloc, &["1,2,3"])?,
-        },
-        Line::Part {
-            skeleton: code_of(alloc, "1,2")?,
-            parts: codes_of(alloc, &["1,2", "1"])?,
-        },
-        Line::Part {
-            skeleton: code_of(alloc, "1,2")?,
-            parts: codes_of(alloc, &["1", "1,2"])?,
-        },
-        Line::Part {
-            skeleton: code_of(alloc, "1,2,3")?,
-            parts: codes_of(alloc, &["1", "1", "1"])?,
-        },
-    ];
-    let text = b"1 | 1,2,3\n1,2 | 1,2 1\n1,2 | 1 1,2\n1,2,3 | 1 1 1\n";
+    let text = b"empty | 1,2,2\nempty | 1,2:0,3\n";
     assert_eq!(rt; text_of(alloc, &lines)?.as_slice(), text.as_slice());
     Ok(())
 }

@@ -3,15 +3,15 @@
 //! Where memory runs out, the functions for one line leave a front of it behind what was there, and `write_line` takes that
 //! front back.
 
-ghost use Rattle.std.specs.Prelude.{◌≡◌, ◌++◌, take, codes, decimal, vec_len, OnOk, OnErr};
+ghost use Rattle.std.specs.Prelude.{◌≡◌, ◌++◌, [], ◌∷◌, None, take, codes, decimal, vec_len, OnOk, OnErr};
 ghost use Rattle.bs_frac.specs.Text.{fraction_text};
-ghost use Rattle.bs_reply.specs.Lines.{line_text, coef_text, head_line, error_line, tree_line, drop_line, same_line, info_line, weight_line, word_text, count_line, listed_line, trees_text, kept_text, split_line, part_line, verdict_text, condition_line, order_line, series_line, coeff_line, print_line, term_line, equal_yes_line, equal_empty_line, difference_text, equal_at_line};
+ghost use Rattle.bs_reply.specs.Lines.{line_text, coef_text, head_line, error_line, tree_line, drop_line, same_line, info_line, weight_line, word_text, count_line, listed_line, split_line, verdict_text, condition_line, order_line, series_line, coeff_line, print_line, term_line, equal_yes_line, equal_empty_line, difference_text, equal_at_line};
 
 use crate::line::{Line, Word};
 use crate::verdict::Verdict;
 use bs_frac::{Coef, Frac};
 use bs_levels::write_tree;
-use bs_tree::{Code, CodeList};
+use bs_tree::Code;
 use itoa::Buffer;
 use std::alloc::AllocError;
 
@@ -48,8 +48,7 @@ fn write_front(out: &mut Vec<u8>, line: &Line<'_>) -> Result<(), AllocError>
         Line::Weight { coef } => write_weight(out, coef),
         Line::Count { word, number } => write_count(out, *word, *number),
         Line::Listed { code } => write_listed(out, code),
-        Line::Split { kept, forest } => write_split(out, kept, forest),
-        Line::Part { skeleton, parts } => write_part(out, skeleton, parts),
+        Line::NothingKept { code } => write_nothing_kept(out, code),
         Line::Condition { code, coef, target } => write_condition(out, code, coef, target),
         Line::Order { number, overflow } => write_order(out, *number, *overflow),
         Line::Series {
@@ -201,45 +200,12 @@ fn write_listed(out: &mut Vec<u8>, code: &Code) -> Result<(), AllocError>
     out.extend_from_slice(b"\n")
 }
 
-/// Appends a space and a tree for each tree of a list.
-fn write_trees(out: &mut Vec<u8>, trees: &CodeList) -> Result<(), AllocError>
-    ensures written { OnOk result (out.new.items ≡ out.old.items ++ trees_text trees.now) }
+fn write_nothing_kept(out: &mut Vec<u8>, code: &Code) -> Result<(), AllocError>
+    ensures written { OnOk result (out.new.items ≡ out.old.items ++ split_line None (code.now ∷ [])) }
     ensures behind { OnErr result (take (vec_len out.old) out.new.items ≡ out.old.items) }
 {
-    'trees: for place in 0..trees.len() {
-        out.push(b' ')?;
-        write_tree(&trees.get(place), out)?;
-    }
-    Ok(())
-}
-
-fn write_kept(out: &mut Vec<u8>, kept: &Option<Code>) -> Result<(), AllocError>
-    ensures written { OnOk result (out.new.items ≡ out.old.items ++ kept_text kept.now) }
-    ensures unchanged { OnErr result (out.new.items ≡ out.old.items) }
-{
-    match kept {
-        Some(code) => write_tree(code, out),
-        None => out.extend_from_slice(b"empty"),
-    }
-}
-
-fn write_split(out: &mut Vec<u8>, kept: &Option<Code>, forest: &CodeList) -> Result<(), AllocError>
-    ensures written { OnOk result (out.new.items ≡ out.old.items ++ split_line kept.now forest.now) }
-    ensures behind { OnErr result (take (vec_len out.old) out.new.items ≡ out.old.items) }
-{
-    write_kept(out, kept)?;
-    out.extend_from_slice(b" |")?;
-    write_trees(out, forest)?;
-    out.extend_from_slice(b"\n")
-}
-
-fn write_part(out: &mut Vec<u8>, skeleton: &Code, parts: &CodeList) -> Result<(), AllocError>
-    ensures written { OnOk result (out.new.items ≡ out.old.items ++ part_line skeleton.now parts.now) }
-    ensures behind { OnErr result (take (vec_len out.old) out.new.items ≡ out.old.items) }
-{
-    write_tree(skeleton, out)?;
-    out.extend_from_slice(b" |")?;
-    write_trees(out, parts)?;
+    out.extend_from_slice(b"empty | ")?;
+    write_tree(code, out)?;
     out.extend_from_slice(b"\n")
 }
 

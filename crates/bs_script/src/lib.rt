@@ -21,6 +21,7 @@ pub use laws::refusal_rests_on_its_prefix;
 pub use reader::read;
 pub use reason::{Reason, ScriptFault};
 pub use script::{Script, SessionText};
+pub use texts::Texts;
 
 /// The most tableaux in a script.
 pub const MAX_TABLES: usize = 256;
