@@ -135,15 +135,3 @@ module _ (tables : List Table) (s : Series) where
 
   pub made-accepted : IsAccepted tables s → made_of tables s ≡ Ok s
   made-accepted h = none_fails s _ _ _ _ (colours.1 h.colours) (empty.1 h.empty) (solvable.1 h.solvable) (shallow.1 h.shallow)
-
-  pub made-colours : ¬ ColoursFit s → made_of tables s ≡ Err Colours
-  made-colours h = first_fails s _ (empty_fits s) (is_solvable tables s) (is_shallow s) (no (colours_fit s) colours h)
-
-  pub made-empty : ColoursFit s × ¬ EmptyFits s → made_of tables s ≡ Err EmptyValue
-  made-empty h = second_fails s _ _ (is_solvable tables s) (is_shallow s) (colours.1 h.0) (no (empty_fits s) empty h.1)
-
-  pub made-solvable : ColoursFit s × EmptyFits s × ¬ IsSolvable tables s → made_of tables s ≡ Err NotSolvable
-  made-solvable h = third_fails s _ _ _ (is_shallow s) (colours.1 h.0) (empty.1 h.1) (no (is_solvable tables s) solvable h.2)
-
-  pub made-deep : ColoursFit s × EmptyFits s × IsSolvable tables s × ¬ IsShallow s → made_of tables s ≡ Err TooDeep
-  made-deep h = fourth_fails s _ _ _ _ (colours.1 h.0) (empty.1 h.1) (solvable.1 h.2) (no (is_shallow s) shallow h.3)

@@ -15,7 +15,7 @@ use Rattle.bs_session.specs.Asked.{order_to, few_to, order_asked, order_shared}
 use Rattle.bs_session.specs.Commands.{two, three, has_colours, coeff_command, print_command, equal_command, command_of, command}
 use Rattle.bs_session.specs.Verbs.{verb_of}
 use Rattle.bs_session.specs.SeriesReplies.{print_reply, equal_reply}
-use Rattle.bs_session.specs.Works.{IsWork, whole_reply, work_left, turns_to_print, turns_to_compare}
+use Rattle.bs_session.specs.Works.{IsWork, IsHeldWork, whole_reply, work_left, turns_to_print, turns_to_compare}
 use Rattle.bs_session.specs.Toil.{toil_by, toil_of}
 use Rattle.bs_session.specs.Changes.{Begins}
 use Rattle.bs_session.specs.declared.TheConstants.{MAX_CONDITIONS, MAX_COEFF_ORDER}
@@ -26,18 +26,20 @@ use Rattle.bs_session.specs.declared.live.LiveTree.{LiveTree}
 use Rattle.bs_session.specs.declared.verb.Verb.{Verb}
 use Rattle.bs_session.specs.declared.verb.Verb.TheVariants.{Coeff, Print, Equal}
 use Rattle.bs_session.specs.declared.work.Work.{Work}
+use Rattle.bs_eval.specs.declared.memory.Memory.{Memory}
 
 module _ (tables : Tables) (space : Space) (ws : List (List ℕ)) (w : Work) where
   pub coeff-begins : (a b : List ℕ) (id : ℕ) (tree : LiveTree) → two ws ≡ Some (a, b) → Finds space a (Some id) → at b space.live ≡ Some tree
       → has_colours (colours_of (series_at space.book id)) tree.code ≡ true → length tree.code ≤ MAX_COEFF_ORDER
       → ((ts : List Table) → whole_reply ts space.book w ≡ coeff_line (written_at ts (series_at space.book id) tree.code))
-      → ((ts : List Table) → IsWork ts space.book w) → work_left space.book w ≤ suc (turns (series_at space.book id) tree.code)
+      → ((ts : List Table) → IsWork ts space.book w) → ((m : Memory) → IsHeldWork space.book m w) → work_left space.book w ≤ suc (turns (series_at space.book id) tree.code)
       → Begins (plain tables) space (coeff_command tables (known_of space) ws) (toil_by (known_of space) (Some Coeff) ws) w
-  coeff-begins a b id tree words finds live coloured small reply work left =
+  coeff-begins a b id tree words finds live coloured small reply work held left =
       let short : nat_lt MAX_COEFF_ORDER (length tree.code) ≡ false = grind (arith, nat_tests, small) in
       record {
         is = rw (words, finds.1, live, coloured, short, reply (plain tables)) refl;
         work = work (plain tables);
+        held = held;
         left = rw (words, finds.1, live) left;
       }
 
@@ -71,26 +73,28 @@ module _ (tables : Tables) (space : Space) (ws : List (List ℕ)) (w : Work) whe
   pub print-begins : (a b : List ℕ) (id p : ℕ) → two ws ≡ Some (a, b) → Finds space a (Some id)
       → order_asked MAX_CONDITIONS (colours_of (series_at space.book id)) (order_to b) ≡ Ok p
       → ((ts : List Table) → whole_reply ts space.book w ≡ print_reply ts (series_at space.book id) p)
-      → ((ts : List Table) → IsWork ts space.book w) → work_left space.book w ≤ turns_to_print (series_at space.book id) p
+      → ((ts : List Table) → IsWork ts space.book w) → ((m : Memory) → IsHeldWork space.book m w) → work_left space.book w ≤ turns_to_print (series_at space.book id) p
       → Begins (plain tables) space (print_command tables (known_of space) ws) (toil_by (known_of space) (Some Print) ws) w
-  print-begins a b id p words finds order reply work left =
+  print-begins a b id p words finds order reply work held left =
       let asked = order_is MAX_CONDITIONS (colours_of (series_at space.book id)) p (order_to b) order in
       record {
         is = rw (words, finds.1, order, reply (plain tables)) refl;
         work = work (plain tables);
+        held = held;
         left = rw (words, finds.1, asked) left;
       }
 
   pub equal-begins : (a b c : List ℕ) (i j p : ℕ) → three ws ≡ Some (a, b, c) → Finds space a (Some i) → Finds space b (Some j)
       → order_shared MAX_CONDITIONS (colours_of (series_at space.book i)) (colours_of (series_at space.book j)) (order_to c) ≡ Ok p
       → ((ts : List Table) → whole_reply ts space.book w ≡ equal_reply ts (series_at space.book i) (series_at space.book j) p)
-      → ((ts : List Table) → IsWork ts space.book w) → work_left space.book w ≤ turns_to_compare (series_at space.book i) (series_at space.book j) p
+      → ((ts : List Table) → IsWork ts space.book w) → ((m : Memory) → IsHeldWork space.book m w) → work_left space.book w ≤ turns_to_compare (series_at space.book i) (series_at space.book j) p
       → Begins (plain tables) space (equal_command tables (known_of space) ws) (toil_by (known_of space) (Some Equal) ws) w
-  equal-begins a b c i j p words left_finds right_finds order reply work left =
+  equal-begins a b c i j p words left_finds right_finds order reply work held left =
       let asked = shared_is MAX_CONDITIONS (colours_of (series_at space.book i)) (colours_of (series_at space.book j)) p (order_to c) order in
       record {
         is = rw (words, left_finds.1, right_finds.1, order, reply (plain tables)) refl;
         work = work (plain tables);
+        held = held;
         left = rw (words, left_finds.1, right_finds.1, asked) left;
       }
 

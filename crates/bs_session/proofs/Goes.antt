@@ -1,5 +1,8 @@
 -- A turn as a whole: what is said, what is done for it, that the state stays sound, and that less is left.
 use Rattle.std.proofs.Common.{◌≡◌, ℕ, suc, ◌+◌, ◌-◌, ◌*◌, ◌<◌, ◌≤◌, List, [], ◌∷◌, ◌++◌, length, drop, Option, Some, None, is_some, not, Bool, true, false, MatchOption, Result, Ok, Err, IfOk, refl, sym, ◌∙◌, ap, subst, arith}
+use Rattle.bs_eval.specs.Values.{IsMemory}
+use Rattle.bs_eval.proofs.Memories.{memory_extends}
+use Rattle.bs_eval.specs.declared.memory.Memory.{Memory}
 use Rattle.bs_tableau.specs.Table.{Table}
 use Rattle.bs_tableau.specs.Words.{words}
 use Rattle.bs_script.specs.Blocks.{ScriptLines}
@@ -9,7 +12,7 @@ use Rattle.bs_session.specs.Known.{Known}
 use Rattle.bs_session.specs.Commands.{Outcome}
 use Rattle.bs_session.specs.Space.{Space, known_of}
 use Rattle.bs_session.specs.Toil.{toil_of}
-use Rattle.bs_session.specs.Works.{IsWork, StepsOn, whole_reply, work_left}
+use Rattle.bs_session.specs.Works.{IsWork, IsHeldWork, StepsOn, whole_reply, work_left}
 use Rattle.bs_session.specs.Changes.{IsBookOf, Begins}
 use Rattle.bs_session.specs.Machine.{State, commands_of, tables_of, plain_of, line_at, outcome_at, said, IsSound, IsAsked, Evaluates, Takes, IsDone, toil_behind, toil_from, left, idle}
 use Rattle.bs_session.specs.Turns.{IsQuiet, GoesOn, accepted}
@@ -101,6 +104,7 @@ sound-grown script old space work sound idle book = record {
   numbered = rw book.live sound.numbered;
   apart = rw book.live sound.apart;
   suits = book.suits;
+  memory = memory_extends (plain_of script old) old.space.book space.book old.memory sound.memory book.ids_stay;
   asked = rw idle tt;
 }
 
@@ -134,9 +138,11 @@ sound-begun script old space work most sound more book b = record {
   numbered = rw book.live sound.numbered;
   apart = rw book.live sound.apart;
   suits = book.suits;
+  memory = memory_extends (plain_of script old) old.space.book space.book old.memory sound.memory book.ids_stay;
   asked = record {
     here = more;
     work = b.work;
+    held = b.held old.memory;
     reply = rw (book.live, book.series) (rw (book.live, book.series) at b.is);
   };
 }
@@ -157,24 +163,26 @@ alike-begun script old space work idle more book few =
     }
 
 -- ---- work that goes on
-abbrev pub working : State → Work → State
-working s work = record s { work = work }
+abbrev pub working : State → Work → Memory → State
+working s work memory = record s { work = work; memory = memory }
 
-works_of : (script : ScriptLines) (old : State) (work : Work) (step : Step) → old.asked ≡ asked.Value → StepsOn (plain_of script old) old.space.book work step → Takes script old (working old work) step × (¬ IsDone step)
-works_of script old work (Intern tree code) value s = absurd s
-works_of script old work (Release tree) value s = absurd s
-works_of script old work (Same x y) value s = absurd s
-works_of script old work (Look id code) value s = (record { asked = value; is = s; live = refl; counted = refl }, λ done. done)
-works_of script old work (Keep id code v) value s = (record { asked = value; is = s; live = refl; counted = refl }, λ done. done)
-works_of script old work (Done reply) value s = absurd s
+works_of : (script : ScriptLines) (old : State) (work : Work) (memory : Memory) (step : Step) → old.asked ≡ asked.Value → StepsOn (plain_of script old) old.space.book work step → Takes script old (working old work memory) step × (¬ IsDone step)
+works_of script old work memory (Intern tree code) value s = absurd s
+works_of script old work memory (Release tree) value s = absurd s
+works_of script old work memory (Same x y) value s = absurd s
+works_of script old work memory (Look id code) value s = (record { asked = value; is = s; live = refl; counted = refl }, λ done. done)
+works_of script old work memory (Keep id code v) value s = (record { asked = value; is = s; live = refl; counted = refl }, λ done. done)
+works_of script old work memory (Done reply) value s = absurd s
 
-sound_working : (script : ScriptLines) (old : State) (work : Work) → IsSound script old → old.asked ≡ asked.Value → IsWork (plain_of script old) old.space.book work
-    → whole_reply (plain_of script old) old.space.book work ≡ whole_reply (plain_of script old) old.space.book old.work → IsSound script (working old work)
-sound_working script old work sound value is same =
+sound_working : (script : ScriptLines) (old : State) (work : Work) (memory : Memory) → IsSound script old → old.asked ≡ asked.Value → IsWork (plain_of script old) old.space.book work
+    → IsHeldWork old.space.book memory work → IsMemory (plain_of script old) old.space.book memory
+    → whole_reply (plain_of script old) old.space.book work ≡ whole_reply (plain_of script old) old.space.book old.work → IsSound script (working old work memory)
+sound_working script old work memory sound value is held right same =
     let e = asked-as script old asked.Value value sound in
-    let evaluates : Evaluates script (working old work) = record {
+    let evaluates : Evaluates script (working old work memory) = record {
       here = e.here;
       work = is;
+      held = held;
       reply = e.reply ∙ ap (λ (r : List ℕ). let o : Outcome = Ok (known_of old.space, r) in o) (sym same);
     } in
     record {
@@ -186,29 +194,31 @@ sound_working script old work sound value is same =
       numbered = sound.numbered;
       apart = sound.apart;
       suits = sound.suits;
-      asked = subst (λ q. IsAsked script (working old work) q) (sym value) evaluates;
+      memory = right;
+      asked = subst (λ q. IsAsked script (working old work memory) q) (sym value) evaluates;
     }
 
-pub goes-working : (script : ScriptLines) (old : State) (work : Work) (step : Step) → IsSound script old → old.asked ≡ asked.Value
-    → GoesOn (plain_of script old) old.space.book old.work (Some step) work → GoesFrom script old (working old work) (Some step)
-goes-working script old work step sound value g =
-    let now : left script (working old work) ≡ 3 * (length (commands_of script old) - old.place) + length old.space.live + 0 + (work_left old.space.book work + toil_behind script old) = rw value refl in
+pub goes-working : (script : ScriptLines) (old : State) (work : Work) (memory : Memory) (step : Step) → IsSound script old → old.asked ≡ asked.Value
+    → GoesOn (plain_of script old) old.space.book old.work (Some step) work memory → GoesFrom script old (working old work memory) (Some step)
+goes-working script old work memory step sound value g =
+    let now : left script (working old work memory) ≡ 3 * (length (commands_of script old) - old.place) + length old.space.live + 0 + (work_left old.space.book work + toil_behind script old) = rw value refl in
     let before : left script old ≡ 3 * (length (commands_of script old) - old.place) + length old.space.live + 0 + (work_left old.space.book old.work + toil_behind script old) = rw value refl in
     record {
       said = refl;
-      takes = works_of script old work step value g.is;
-      sound = sound_working script old work sound value g.work g.reply;
+      takes = works_of script old work memory step value g.is;
+      sound = sound_working script old work memory sound value g.work g.held g.memory g.reply;
       number = refl;
       ids_stay = Extends-refl old.space.book;
       nearer = omega (arith, now, before, g.nearer);
     }
 
 -- ---- work that is at its end
-pub goes-worked : (script : ScriptLines) (old new : State) (work : Work) → IsSound script old → old.asked ≡ asked.Value → GoesOn (plain_of script old) old.space.book old.work None work
-    → new ≡ accepted (length old.out) (record old { work = work; out = old.out ++ work.draft.items; asked = asked.Nothing }) → GoesFrom script old new None
-goes-worked script old new work sound value whole e =
+pub goes-worked : (script : ScriptLines) (old new : State) (work : Work) (memory : Memory) → IsSound script old → old.asked ≡ asked.Value → GoesOn (plain_of script old) old.space.book old.work None work memory
+    → new ≡ accepted (length old.out) (record old { work = work; memory = memory; out = old.out ++ work.draft.items; asked = asked.Nothing }) → GoesFrom script old new None
+goes-worked script old new work memory sound value g0 e =
+    let whole = g0.0 in
     let is = asked-as script old asked.Value value sound in
-    let mid : State = working (unasked old) work in
+    let mid : State = working (unasked old) work memory in
     let reply : Known × List ℕ = (known_of old.space, work.draft.items) in
     let outcome : outcome_at script mid ≡ Ok reply = is.reply ∙ ap (λ (r : List ℕ). let o : Outcome = Ok (known_of old.space, r) in o) (sym whole) in
     let mid_sound : IsSound script mid = record {
@@ -220,10 +230,11 @@ goes-worked script old new work sound value whole e =
       numbered = sound.numbered;
       apart = sound.apart;
       suits = sound.suits;
+      memory = g0.1;
       asked = tt;
     } in
     let g = goes-settled script mid new (Ok reply) (old.out ++ work.draft.items) Nothing None mid_sound refl is.here outcome (refl, refl, tt)
-    (settles-nothing (length old.out) (record old { work = work; out = old.out ++ work.draft.items; asked = asked.Nothing }) new e) in
+    (settles-nothing (length old.out) (record old { work = work; memory = memory; out = old.out ++ work.draft.items; asked = asked.Nothing }) new e) in
     let here = left-here script old is.here in
     record {
       said = g.said;
@@ -259,15 +270,15 @@ left-released script old live idle last less =
     drop_all (x ∷ xs) = drop_all xs
 
 -- ---- what the work comes to, by whether there is a step
-pub goes-ended : (script : ScriptLines) (old new : State) (work : Work) (step : Option Step) (none : Bool) → IsSound script old → old.asked ≡ asked.Value → GoesOn (plain_of script old) old.space.book old.work step work
-    → is_some step ≡ not none → none ≡ true → new ≡ accepted (length old.out) (record old { work = work; out = old.out ++ work.draft.items; asked = asked.Nothing }) → GoesFrom script old new step
-goes-ended script old new work None none sound value g is h e = goes-worked script old new work sound value g e
-goes-ended script old new work (Some step) none sound value g is h e = absurd (let f : true ≡ false = is ∙ ap not h in cc)
+pub goes-ended : (script : ScriptLines) (old new : State) (work : Work) (memory : Memory) (step : Option Step) (none : Bool) → IsSound script old → old.asked ≡ asked.Value → GoesOn (plain_of script old) old.space.book old.work step work memory
+    → is_some step ≡ not none → none ≡ true → new ≡ accepted (length old.out) (record old { work = work; memory = memory; out = old.out ++ work.draft.items; asked = asked.Nothing }) → GoesFrom script old new step
+goes-ended script old new work memory None none sound value g is h e = goes-worked script old new work memory sound value g e
+goes-ended script old new work memory (Some step) none sound value g is h e = absurd (let f : true ≡ false = is ∙ ap not h in cc)
 
-pub goes-asked : (script : ScriptLines) (old new : State) (work : Work) (step : Option Step) (none : Bool) → IsSound script old → old.asked ≡ asked.Value → GoesOn (plain_of script old) old.space.book old.work step work
-    → is_some step ≡ not none → none ≡ false → new ≡ working old work → GoesFrom script old new step
-goes-asked script old new work None none sound value g is h e = absurd (let f : false ≡ true = is ∙ ap not h in cc)
-goes-asked script old new work (Some step) none sound value g is h e = rw e (goes-working script old work step sound value g)
+pub goes-asked : (script : ScriptLines) (old new : State) (work : Work) (memory : Memory) (step : Option Step) (none : Bool) → IsSound script old → old.asked ≡ asked.Value → GoesOn (plain_of script old) old.space.book old.work step work memory
+    → is_some step ≡ not none → none ≡ false → new ≡ working old work memory → GoesFrom script old new step
+goes-asked script old new work memory None none sound value g is h e = absurd (let f : false ≡ true = is ∙ ap not h in cc)
+goes-asked script old new work memory (Some step) none sound value g is h e = rw e (goes-working script old work memory step sound value g)
 
 -- ---- a state that only says more of memory
 pub takes-failed : (script : ScriptLines) (old new : State) (failed : Bool) (step : Step) → Takes script old new step → Takes script old (record new { failed = failed }) step

@@ -6,7 +6,6 @@ pub mod Sound
 mod Settled
 mod Goes
 mod Begun
-mod Keys
 mod Meant
 mod Acceptance
 mod Named
@@ -15,4 +14,7 @@ mod Jobs
 mod Reading
 mod Walked
 mod OrderTold
-mod ItemLists
+mod RowLines
+mod Appended
+mod RowCounts
+mod ItemReplies

@@ -12,13 +12,14 @@ use Rattle.bs_session.specs.Names.{at, Sets}
 use Rattle.bs_session.specs.Errors.{error_number}
 use Rattle.bs_session.specs.Known.{Known}
 use Rattle.bs_session.specs.Commands.{Outcome, command}
-use Rattle.bs_session.specs.Replies.{tables_seen}
+use Rattle.bs_session.specs.Replies.{tables_seen, session_replies}
 use Rattle.bs_tableau.specs.Table.{Table}
 use Rattle.bs_series.specs.Series.{Series}
 use Rattle.bs_series.specs.Accepted.{Suits}
 use Rattle.bs_session.specs.Known.{plain}
 use Rattle.bs_session.specs.Space.{Space, known_of}
 use Rattle.bs_session.specs.Changes.{known_after, IsApt, Says, Asks}
+use Rattle.bs_eval.specs.Values.{IsMemory}
 use Rattle.bs_session.specs.Machine.{State, no_session, session_at, commands_of, tables_of, line_at, outcome_at, said, IsSound, IsAsked, AreNumbered, AreApart, Interns, Releases, Compares, IsTrueOf, is_yes, Takes, IsDone, plain_of, toil_behind, toil_from, left}
 use Rattle.bs_session.specs.Turns.{Applies, SettlesBy, Settles, IsQuiet, fits, accepted}
 use Rattle.bs_session.specs.declared.TheConstants.{MAX_REPLIES}
@@ -149,9 +150,13 @@ book-settled : (b : Bool) (old : State) (text : List ℕ) (change : Change) (new
 book-settled true old text change new step s = (rest-applied change (taken_by true old text) new step s).book
 book-settled false old text change new step s = ap (λ (t : State). t.space.book) s.0
 
+memory-settled : (b : Bool) (old : State) (text : List ℕ) (change : Change) (new : State) (step : Option Step) → SettlesBy b (taken_by b old text) change new step → new.memory ≡ old.memory
+memory-settled true old text change new step s = (rest-applied change (taken_by true old text) new step s).memory
+memory-settled false old text change new step s = ap (λ (t : State). t.memory) s.0
+
 sound_idle : (script : ScriptLines) (s : State) → s.number < length script.sessions → length (commands_of script s) ≤ MAX_COMMANDS → s.place ≤ length (commands_of script s) → s.used ≤ MAX_REPLIES → GoodNames s.space.live s.interned s.place
-    → Suits (plain_of script s) s.space.book → s.asked ≡ asked.Nothing → IsSound script s
-sound_idle script s here few place used good suits idle = record {
+    → Suits (plain_of script s) s.space.book → IsMemory (plain_of script s) s.space.book s.memory → s.asked ≡ asked.Nothing → IsSound script s
+sound_idle script s here few place used good suits memory idle = record {
   here = here;
   few = few;
   place = place;
@@ -160,6 +165,7 @@ sound_idle script s here few place used good suits idle = record {
   numbered = good.numbered;
   apart = good.apart;
   suits = suits;
+  memory = memory;
   asked = rw idle tt;
 }
 
@@ -170,8 +176,8 @@ commands_same : (script : ScriptLines) (old new : State) → new.number ≡ old.
 commands_same script old new e = rw e refl
 
 pub sound-turned : (script : ScriptLines) (old new : State) → IsSound script old → old.place < length (commands_of script old) → new.number ≡ old.number → new.place ≡ old.place + 1 → new.used ≤ MAX_REPLIES
-    → GoodNames new.space.live new.interned (old.interned + 1) → new.space.book ≡ old.space.book → new.asked ≡ asked.Nothing → IsSound script new
-sound-turned script old new sound more number place used good book idle =
+    → GoodNames new.space.live new.interned (old.interned + 1) → new.space.book ≡ old.space.book → new.memory ≡ old.memory → new.asked ≡ asked.Nothing → IsSound script new
+sound-turned script old new sound more number place used good book memory idle =
     sound_idle script new
     (rw number sound.here)
     (rw (commands_same script old new number) sound.few)
@@ -179,6 +185,7 @@ sound-turned script old new sound more number place used good book idle =
     used
     (rw place (more_names new.space.live new.interned (old.interned + 1) (old.place + 1) good (omega (arith, sound.interned))))
     (rw (book, number) sound.suits)
+    (rw (book, number, memory) sound.memory)
     idle
 
 -- ---- what is done for a turn
@@ -311,6 +318,7 @@ goes-settled script old new (Ok answer) out change step sound idle more outcome 
           (used-settled (is_short old answer.1) old answer.1 change new step refl by sound.used)
           (good-settled (is_short old answer.1) old answer.1 change new step by sound.numbered sound.apart)
           book
+          (memory-settled (is_short old answer.1) old answer.1 change new step by)
           asked;
       number = turned.number;
       book = book;
@@ -330,7 +338,7 @@ goes-refused script old new error sound idle more outcome e =
     record {
       said = said-turned script old new more turned;
       takes = quiet_of old new live interned asked;
-      sound = sound-turned script old new sound more turned.number turned.place (rw used sound.used) (good_as old new live interned sound.numbered sound.apart) book asked;
+      sound = sound-turned script old new sound more turned.number turned.place (rw used sound.used) (good_as old new live interned sound.numbered sound.apart) book (ap (λ (t : State). t.memory) e) asked;
       number = turned.number;
       book = book;
       nearer = near_turned script old new more turned (omega (arith, few)) asked;
@@ -356,6 +364,7 @@ sound-released script old new name sound idle e sets =
     let interned : new.interned ≡ old.interned = ap (λ (t : State). t.interned) e in
     let used : new.used ≡ old.used = ap (λ (t : State). t.used) e in
     let book : new.space.book ≡ old.space.book = ap (λ (t : State). t.space.book) e in
+    let memory : new.memory ≡ old.memory = ap (λ (t : State). t.memory) e in
     let asked : new.asked ≡ asked.Nothing = ap (λ (t : State). t.asked) e ∙ idle in
     sound_idle script new
     (rw number sound.here)
@@ -368,6 +377,7 @@ sound-released script old new name sound idle e sets =
       few = sound.interned;
     }))
     (rw (book, number) sound.suits)
+    (rw (book, number, memory) sound.memory)
     asked
 
 -- ---- a question
@@ -385,6 +395,7 @@ sound-asking script s question sound asks = record {
   numbered = sound.numbered;
   apart = sound.apart;
   suits = sound.suits;
+  memory = sound.memory;
   asked = asks;
 }
 
@@ -484,7 +495,7 @@ takes-after script old mid new (Done reply) number live interned t = (sym live �
 pub asked-failed : (script : ScriptLines) (s : State) (failed : Bool) (question : Asked) → IsAsked script s question → IsAsked script (record s { failed = failed }) question
 asked-failed script s failed asked.Nothing is = tt
 asked-failed script s failed (asked.Same l r) is = is
-asked-failed script s failed asked.Value is = record { here = is.here; work = is.work; reply = is.reply }
+asked-failed script s failed asked.Value is = record { here = is.here; work = is.work; held = is.held; reply = is.reply }
 
 pub sound-failed : (script : ScriptLines) (s : State) (failed : Bool) → IsSound script s → IsSound script (record s { failed = failed })
 sound-failed script s failed sound = record {
@@ -496,6 +507,7 @@ sound-failed script s failed sound = record {
   numbered = sound.numbered;
   apart = sound.apart;
   suits = sound.suits;
+  memory = sound.memory;
   asked = asked-failed script s failed s.asked sound.asked;
 }
 
@@ -505,8 +517,8 @@ map_on_ok P Q (Err e) f h = tt
 
 -- ---- the start
 pub sound-start : (script : ScriptLines) (s : State) → All (λ x. length x.commands ≤ MAX_COMMANDS) script.sessions → s.number < length script.sessions → s.place ≡ 0 → s.interned ≡ 0 → s.used ≡ 0
-    → s.space.live ≡ [] → s.space.book ≡ [] → s.asked ≡ asked.Nothing → IsSound script s
-sound-start script s few here place interned used live book idle =
+    → s.space.live ≡ [] → s.space.book ≡ [] → ((ts : List Table) (es : List Series) → IsMemory ts es s.memory) → s.asked ≡ asked.Nothing → IsSound script s
+sound-start script s few here place interned used live book memory idle =
     sound_idle script s here (few s.number no_session here) (omega (arith, place)) (omega (arith, used))
     (rw (live, interned, place) (record {
       numbered = λ name tree found. let at_none : at name [] ≡ Some tree = found in cc;
@@ -514,4 +526,8 @@ sound-start script s few here place interned used live book idle =
       few = omega arith;
     }))
     (rw book tt)
+    (memory (plain_of script s) s.space.book)
     idle
+
+pub said-start : (script : ScriptLines) (s : State) → s.place ≡ 0 → s.used ≡ 0 → s.out ≡ [] → s.space.live ≡ [] → s.space.series ≡ [] → said script s ≡ session_replies script (session_at script s.number)
+said-start script s place used out live series = rw (place, used, out, live, series) refl

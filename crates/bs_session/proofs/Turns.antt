@@ -186,6 +186,7 @@ pub record SameRest (taken new : State) : Type 0 where
   pub out : new.out ≡ taken.out
   pub asked : new.asked ≡ taken.asked
   pub book : new.space.book ≡ taken.space.book
+  pub memory : new.memory ≡ taken.memory
 
 same_rest : (taken new : State) (space : Space) (interned : ℕ) → new ≡ record taken { space = space; interned = interned } → space.book ≡ taken.space.book → SameRest taken new
 same_rest taken new space interned e book = record {
@@ -195,6 +196,7 @@ same_rest taken new space interned e book = record {
   out = ap (λ (s : State). s.out) e;
   asked = ap (λ (s : State). s.asked) e;
   book = ap (λ (s : State). s.space.book) e ∙ book;
+  memory = ap (λ (s : State). s.memory) e;
 }
 
 pub rest-applied : (change : Change) (taken new : State) (step : Option Step) → Applies change taken new step → SameRest taken new

@@ -20,7 +20,7 @@ use Rattle.bs_session.specs.Names.{at}
 use Rattle.bs_session.specs.Known.{Known, with_tree, without_tree, with_series}
 use Rattle.bs_session.specs.Space.{Space, known_of}
 use Rattle.bs_session.specs.Commands.{Outcome, same_reply}
-use Rattle.bs_session.specs.Works.{IsWork, whole_reply, work_left}
+use Rattle.bs_session.specs.Works.{IsWork, IsHeldWork, whole_reply, work_left}
 use Rattle.bs_session.specs.declared.error.Fault.{Fault}
 use Rattle.bs_session.specs.declared.error.Fault.TheVariants.{Refused, Memory}
 use Rattle.bs_session.specs.declared.live.LiveTree.{LiveTree}
@@ -29,6 +29,7 @@ use Rattle.bs_session.specs.declared.change.Change.TheVariants.{Nothing, Name, D
 use Rattle.bs_session.specs.declared.change.Carried.{Carried}
 use Rattle.bs_session.specs.declared.change.Carried.TheVariants.{Replied, Asked, Begun}
 use Rattle.bs_session.specs.declared.work.Work.{Work}
+use Rattle.bs_eval.specs.declared.memory.Memory.{Memory as Left}
 
 abbrev pub IsLive : Space → LiveTree → Type 0
 IsLive space tree = (name : List ℕ) × (at name space.live ≡ Some tree)
@@ -59,6 +60,7 @@ Asks space outcome left right =
 pub record Begins (tables : List Table) (space : Space) (outcome : Outcome) (most : ℕ) (w : Work) : Type 0 where
   pub is : outcome ≡ Ok (known_of space, whole_reply tables space.book w)
   pub work : IsWork tables space.book w
+  pub held : (m : Left) → IsHeldWork space.book m w
   pub left : work_left space.book w ≤ most
 
 abbrev pub Carries : List Table → Space → Outcome → ℕ → List ℕ → List ℕ → Work → Carried → Type 0

@@ -6,7 +6,8 @@
 --   partition_reply code   == the reply with its partitions, likewise
 --
 -- Source: Chartier, Hairer and Vilmart (2010), the composition law and the substitution law; the orders of the lists are this project's.
--- The code holds no list: it walks over the items and writes each as it comes.
+-- The code makes the text of each tree once, and copies it for each line: a catalog gives the items as rows of numbers of trees, all
+-- but the splitting that keeps nothing.
 use Rattle.std.specs.Prelude.{ℕ, List, ◌++◌, length, flat_map}
 use Rattle.bs_split.specs.Splitting.{SplitCodes, split_codes}
 use Rattle.bs_part.specs.Partition.{PartCodes, part_codes}

@@ -2,7 +2,8 @@
 --
 --   State                    == the session's place in the script, how many commands are carried out, how many trees were interned,
 --                               the bytes of accepted replies, what is named and the book of series, the replies so far, what was
---                               asked last, the work on a reply that wants coefficients, and whether memory ran out
+--                               asked last, the work on a reply that wants coefficients, what its evaluations left behind, and whether
+--                               memory ran out
 --   commands_of, tables_of   == the command lines of a session of a script, and the tableaux that it sees
 --   said script s            == the replies so far, and those of the commands that are left: it never changes
 --   outcome_at script s      == what the command at the state's place answers
@@ -27,11 +28,13 @@ use Rattle.bs_frac.specs.declared.coef.Coef.{Coef}
 use Rattle.bs_series.specs.Series.{Series}
 use Rattle.bs_series.specs.Accepted.{Suits}
 use Rattle.bs_tableau.specs.Table.{Table}
+use Rattle.bs_eval.specs.Values.{IsMemory}
+use Rattle.bs_eval.specs.declared.memory.Memory.{Memory}
 use Rattle.bs_session.specs.Known.{Known, Tables, plain}
 use Rattle.bs_session.specs.Commands.{Outcome, command}
 use Rattle.bs_session.specs.Replies.{Turn, settled, replies, tables_seen}
 use Rattle.bs_session.specs.Space.{Space, known_of}
-use Rattle.bs_session.specs.Works.{IsWork, IsHanded, StepsOn, whole_reply, work_left}
+use Rattle.bs_session.specs.Works.{IsWork, IsHeldWork, IsHanded, StepsOn, whole_reply, work_left}
 use Rattle.bs_session.specs.Toil.{toil}
 use Rattle.bs_session.specs.Changes.{IsLive, Asks}
 use Rattle.bs_session.specs.declared.TheConstants.{MAX_REPLIES}
@@ -53,6 +56,7 @@ pub record State : Type 0 where
   pub out : List ℕ
   pub asked : Asked
   pub work : Work
+  pub memory : Memory
   pub failed : Bool
 
 abbrev pub no_session : SessionLines
@@ -113,6 +117,7 @@ IsTruthful script s answer = IsTruthfulOf (plain_of script s) s.space.book s.wor
 pub record Evaluates (script : ScriptLines) (s : State) : Type 0 where
   pub here : s.place < length (commands_of script s)
   pub work : IsWork (plain_of script s) s.space.book s.work
+  pub held : IsHeldWork s.space.book s.memory s.work
   pub reply : outcome_at script s ≡ Ok (known_of s.space, whole_reply (plain_of script s) s.space.book s.work)
 
 -- what is asked is the command at the place
@@ -138,6 +143,7 @@ pub record IsSound (script : ScriptLines) (s : State) : Type 0 where
   pub numbered : AreNumbered s.space.live s.interned
   pub apart : AreApart s.space.live
   pub suits : Suits (plain_of script s) s.space.book
+  pub memory : IsMemory (plain_of script s) s.space.book s.memory
   pub asked : IsAsked script s s.asked
 
 -- whether the answer is yes

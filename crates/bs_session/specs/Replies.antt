@@ -8,7 +8,7 @@
 --   session_replies script s   == THE REPLIES of a session of a script, which sees the tableaux that stand above it
 --
 -- Source: this project.
--- The code asks others to compare trees, and goes on with their answers.
+-- The code asks others to compare trees and to remember coefficients, and goes on with their answers.
 use Rattle.std.specs.Prelude.{ℕ, ◌+◌, List, [], ◌∷◌, ◌++◌, length, take, Result, Ok, Err, nat_le, if◌then◌else◌}
 use Rattle.std.specs.List.{zip}
 use Rattle.bs_tableau.specs.Words.{words}

@@ -2,7 +2,8 @@
 --
 --   IsQuiet old new          == commands were carried out that have nothing done by others
 --   fits start s             == with the reply from `start` on the accepted replies are not too long
---   GoesOn ts es old step new == the work asks this step, and is nearer to the same reply; or it has come to the reply
+--   GoesOn ts es old step new m == the work asks this step, and is nearer to the same reply; or it has come to the reply. What the memory
+--                               m has is right
 --   accepted start s         == the state after this reply is taken, or refused for its length
 --   Applies c old new step   == the change was made, and this is to be done for it
 --   Settles start c old new step == the reply is taken and the change made; or it is refused, and nothing changed
@@ -13,9 +14,11 @@ use Rattle.bs_reply.specs.Lines.{error_line}
 use Rattle.bs_session.specs.Names.{at, Sets}
 use Rattle.bs_session.specs.Errors.{error_number}
 use Rattle.bs_series.specs.Expressions.{series_at}
+use Rattle.bs_eval.specs.Values.{IsMemory}
+use Rattle.bs_eval.specs.declared.memory.Memory.{Memory}
 use Rattle.bs_tableau.specs.Table.{Table}
 use Rattle.bs_series.specs.Series.{Series}
-use Rattle.bs_session.specs.Works.{IsWork, StepsOn, whole_reply, work_left}
+use Rattle.bs_session.specs.Works.{IsWork, IsHeldWork, StepsOn, whole_reply, work_left}
 use Rattle.bs_session.specs.declared.work.Work.{Work}
 use Rattle.bs_session.specs.declared.asked.Asked.TheVariants as asked
 use Rattle.bs_session.specs.Machine.{State}
@@ -62,13 +65,15 @@ SettlesBy false taken change new step = (new ≡ taken) × (step ≡ None)
 abbrev pub Settles : ℕ → Change → State → State → Option Step → Type 0
 Settles start change old new step = SettlesBy (fits start old) (accepted start old) change new step
 
--- what a turn of the work comes to: a question, or the whole reply
-pub record Goes (tables : List Table) (es : List Series) (old : Work) (step : Step) (new : Work) : Type 0 where
+-- what a turn of the work comes to, over the memory that it leaves: a question, or the whole reply
+pub record Goes (tables : List Table) (es : List Series) (old : Work) (step : Step) (new : Work) (m : Memory) : Type 0 where
   pub is : StepsOn tables es new step
   pub reply : whole_reply tables es new ≡ whole_reply tables es old
   pub work : IsWork tables es new
+  pub held : IsHeldWork es m new
+  pub memory : IsMemory tables es m
   pub nearer : work_left es new < work_left es old
 
-abbrev pub GoesOn : List Table → List Series → Work → Option Step → Work → Type 0
-GoesOn tables es old None new = new.draft.items ≡ whole_reply tables es old
-GoesOn tables es old (Some step) new = Goes tables es old step new
+abbrev pub GoesOn : List Table → List Series → Work → Option Step → Work → Memory → Type 0
+GoesOn tables es old None new m = (new.draft.items ≡ whole_reply tables es old) × IsMemory tables es m
+GoesOn tables es old (Some step) new m = Goes tables es old step new m

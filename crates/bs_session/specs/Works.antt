@@ -12,6 +12,7 @@
 --   IsTask es task          == its series are in the book, and have the colours of its trees
 --   IsNext es task          == of a task that comes next: this, and the series whose value it awaits is in the book and has the tree's colours
 --   IsWork ts es w          == the evaluation is sound, and is that of the awaited value
+--   IsHeldWork es m w       == its numbers of trees are those of the memory
 --   IsHanded ts es w found  == what was found is nothing, or the written value of the pair that was looked up
 --   StepsOn ts es w step    == the step is a look for what is awaited from then on, or the keep of a written value
 --
@@ -23,9 +24,10 @@ use Rattle.bs_tableau.specs.Table.{Table}
 use Rattle.bs_series.specs.Series.{Series, colours_of}
 use Rattle.bs_series.specs.SeriesCode.{Code, written_at, IsColouredCode}
 use Rattle.bs_series.specs.Expressions.{series_at}
-use Rattle.bs_eval.specs.Machine.{asked, awaiting, IsSound, IsTruthfulOf}
+use Rattle.bs_eval.specs.Machine.{asked, awaiting, IsSound, IsTruthfulOf, IsHeld}
 use Rattle.bs_eval.specs.Turns.{turns, left}
-use Rattle.bs_eval.specs.declared.frame.Pair.{Pair}
+use Rattle.bs_eval.specs.declared.memory.Memory.{Memory}
+use Rattle.bs_eval.specs.declared.pair.Pair.{Pair}
 use Rattle.bs_reply.specs.Lines.{coeff_line}
 use Rattle.bs_session.specs.SeriesReplies.{term_at, difference, first_told, compared_over}
 use Rattle.bs_session.specs.declared.step.Step.{Step}
@@ -129,6 +131,13 @@ IsJob tables es (Some job) = IsJobSound tables es job
 
 abbrev pub IsWork : List Table → List Series → Work → Type 0
 IsWork tables es w = IsJob tables es w.job
+
+abbrev pub IsHeldJob : List Series → Memory → Option Job → Type 0
+IsHeldJob es m None = Unit {0}
+IsHeldJob es m (Some job) = IsHeld es m job.eval
+
+abbrev pub IsHeldWork : List Series → Memory → Work → Type 0
+IsHeldWork es m w = IsHeldJob es m w.job
 
 -- ---- questions and answers
 abbrev pub job_awaiting : Option Job → Option Pair

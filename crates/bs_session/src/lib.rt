@@ -1,5 +1,5 @@
-//! One session of a script, as a pure machine: it carries out the session's commands, and asks others to keep its trees and to
-//! compare them.
+//! One session of a script, as a pure machine: it carries out the session's commands, and asks others to keep its trees, to compare
+//! them, and whether they remember its coefficients.
 //!
 //! A contract sees a `Session` as its `State`. What a session replies is `session_replies` of `specs/Replies.antt`.
 #![tactic(auto)]
@@ -22,13 +22,13 @@ mod live_tests;
 mod namespace;
 mod number;
 mod operation;
+mod rows;
 mod seen;
 mod series;
 #[cfg(test)]
 mod series_tests;
 mod session;
 mod step;
-mod table_weights;
 mod task;
 #[cfg(test)]
 mod tests;

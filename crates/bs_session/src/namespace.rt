@@ -13,8 +13,8 @@ ghost use Rattle.bs_session.specs.Changes.{IsBookOf};
 use crate::live::{LiveTree, LiveTrees};
 use bs_series::{Book, Kind, SeriesFault, SeriesId};
 use bs_tableau::Tableau;
+use indexmap::IndexMap;
 use std::alloc::{AllocError, Global};
-use std::collections::BTreeMap;
 use std::marker::Model;
 
 /// Names of trees and of series.
@@ -23,7 +23,7 @@ pub(crate) struct Namespace {
     alloc: Global,
     live: LiveTrees,
     book: Book,
-    series: BTreeMap<Vec<u8>, SeriesId>,
+    series: IndexMap<Vec<u8>, SeriesId>,
 }
 
 impl Model for Namespace {
@@ -48,7 +48,7 @@ impl Namespace {
             alloc,
             live: LiveTrees::new(alloc),
             book: Book::new(alloc),
-            series: BTreeMap::new(alloc),
+            series: IndexMap::new(alloc),
         }
     }
 

@@ -24,8 +24,8 @@ use crate::live::LiveTree;
 use crate::namespace::Namespace;
 use crate::seen::Seen;
 use crate::step::{Answer, Step};
-use crate::table_weights::TableWeights;
 use crate::work::Work;
+use bs_eval::{Memory, TableWeights};
 use bs_frac::Coef;
 use bs_reply::{Line, write_line};
 use bs_script::Script;
@@ -46,6 +46,7 @@ pub struct Session {
     out: Vec<u8>,
     asked: Asked,
     work: Work,
+    memory: Memory,
     failed: bool,
 }
 
@@ -67,6 +68,7 @@ impl Model for Session {
       out = a.out.items;
       asked = a.asked;
       work = a.work;
+      memory = a.memory;
       failed = a.failed;
     } };
 }
@@ -107,6 +109,7 @@ impl Session {
             out: Vec::new(alloc),
             asked: Asked::Nothing,
             work: Work::new(alloc),
+            memory: Memory::new(alloc),
             failed: false,
         })
     }
@@ -282,12 +285,14 @@ impl Session {
         requires sound { IsSound script.now self.old }
         requires works { self.old.asked ≡ asked.Value }
         requires handed { IsHanded (plain_of script.now self.old) self.old.space.book self.old.work found }
-        ensures goes { IfOk result (λ step. GoesOn (plain_of script.now self.old) self.old.space.book self.old.work step self.new.work) }
-        ensures rest { self.new ≡ record self.old { work = self.new.work } }
+        ensures goes { IfOk result (λ step. GoesOn (plain_of script.now self.old) self.old.space.book self.old.work step self.new.work self.new.memory) }
+        ensures rest { self.new ≡ record self.old { work = self.new.work; memory = self.new.memory } }
     {
         let number = self.number;
         let tables = Seen::new(script, script.sessions()[number].above());
-        self.work.next(self.names.book(), tables.tables(), found)
+        let book = self.names.book();
+        self.work
+            .next(book, tables.tables(), &mut self.memory, found)
     }
 
     /// Takes the reply that is worked out.

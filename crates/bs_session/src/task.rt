@@ -5,7 +5,7 @@ ghost use Rattle.bs_tableau.specs.Table.{Table};
 ghost use Rattle.bs_series.specs.Series.{Series};
 ghost use Rattle.bs_series.specs.Expressions.{series_at};
 ghost use Rattle.bs_reply.specs.Lines.{line_text};
-ghost use Rattle.bs_eval.specs.Frames.{value_at_pair};
+ghost use Rattle.bs_eval.specs.Pairs.{value_at_pair};
 ghost use Rattle.bs_session.specs.SeriesReplies.{term_at, difference, compared_over};
 ghost use Rattle.bs_session.specs.Works.{pair_of, to_come, to_come_next, turns_behind, next_left, one_more, both_more, IsOver, IsTask, IsNext};
 

@@ -1,6 +1,6 @@
 //! The work on a reply that wants coefficients.
 //!
-//! It evaluates one coefficient after another, and hands each to its task, which writes the reply. Nobody counts the steps of the
+//! It evaluates one coefficient after another over the memory of the session, and hands each to its task, which writes the reply. Nobody counts the steps of the
 //! walks of an evaluation, so their ledger is a brand.
 
 ghost use Rattle.std.specs.Prelude.{◌≡◌, ◌<◌, ◌≤◌, ◌++◌, suc, List, [], None, length, IfOk, IfSome, IfNone, OnOk, IsSome};
@@ -10,18 +10,20 @@ ghost use Rattle.bs_series.specs.Series.{Series, colours_of};
 ghost use Rattle.bs_series.specs.SeriesCode.{written_at};
 ghost use Rattle.bs_series.specs.Accepted.{Suits};
 ghost use Rattle.bs_series.specs.Expressions.{series_at};
-ghost use Rattle.bs_eval.specs.Frames.{value_at_pair};
+ghost use Rattle.bs_eval.specs.Pairs.{value_at_pair};
+ghost use Rattle.bs_eval.specs.Values.{IsMemory};
+ghost use Rattle.bs_eval.specs.declared.memory.Memory.{Memory as Left};
 ghost use Rattle.bs_eval.specs.Turns.{turns};
 ghost use Rattle.bs_reply.specs.Lines.{coeff_line};
 ghost use Rattle.bs_session.specs.SeriesReplies.{print_reply, equal_reply};
-ghost use Rattle.bs_session.specs.Works.{to_come_next, to_come_of, whole_reply, next_left, job_left, work_left, turns_to_print, turns_to_compare, HasColoured, IsNext, IsJob, IsWork, IsHanded, IsTask, StepsOn, pair_of, turns_behind};
+ghost use Rattle.bs_session.specs.Works.{to_come_next, to_come_of, whole_reply, next_left, job_left, work_left, turns_to_print, turns_to_compare, HasColoured, IsNext, IsJob, IsWork, IsHeldJob, IsHeldWork, IsHanded, IsTask, StepsOn, pair_of, turns_behind};
 
 use crate::MAX_CONDITIONS;
 use crate::step::Step;
 use crate::task::Task;
 use crate::up_to::UpTo;
 use bs_enum::count_to;
-use bs_eval::{Ask, Eval};
+use bs_eval::{Ask, Eval, Memory};
 use bs_frac::Coef;
 use bs_reply::{Line, write_line};
 use bs_series::{Book, SeriesId};
@@ -51,6 +53,7 @@ pub(crate) struct Work {
 fn job_of(alloc: Global, next: Option<Task>) -> Option<Job>
     ensures told { (tables : List Table) (es : List Series) → to_come_of tables es result ≡ to_come_next tables es next }
     ensures sound { (tables : List Table) (es : List Series) → IsNext es next → IsJob tables es result }
+    ensures held { (es : List Series) (m : Left) → IsHeldJob es m result }
     ensures left { (es : List Series) → job_left es result ≡ next_left es next }
 {
     match next {
@@ -100,6 +103,7 @@ impl Work {
         requires coloured { HasColoured book.now series code }
         ensures reply { (tables : List Table) → whole_reply tables book.now self.new ≡ coeff_line (written_at tables (series_at book.now series) code) }
         ensures work { (tables : List Table) → IsWork tables book.now self.new }
+        ensures held { (es : List Series) (m : Left) → IsHeldWork es m self.new }
         ensures nearer { work_left book.now self.new ≤ suc (turns (series_at book.now series) code) }
     {
         self.clear();
@@ -118,6 +122,7 @@ impl Work {
         requires few { trees_to order (colours_of (series_at book.now series)) ≤ MAX_CONDITIONS }
         ensures reply { (tables : List Table) → OnOk result (whole_reply tables book.now self.new ≡ print_reply tables (series_at book.now series) order) }
         ensures work { (tables : List Table) → OnOk result (IsWork tables book.now self.new) }
+        ensures held { (es : List Series) (m : Left) → OnOk result (IsHeldWork es m self.new) }
         ensures nearer { OnOk result (work_left book.now self.new ≤ turns_to_print (series_at book.now series) order) }
     {
         let colours = usize::from(book.colours(series));
@@ -144,6 +149,7 @@ impl Work {
         requires few_nodes { order ≤ MAX_NODES }
         ensures reply { (tables : List Table) → OnOk result (whole_reply tables book.now self.new ≡ equal_reply tables (series_at book.now left) (series_at book.now right) order) }
         ensures work { (tables : List Table) → OnOk result (IsWork tables book.now self.new) }
+        ensures held { (es : List Series) (m : Left) → OnOk result (IsHeldWork es m self.new) }
         ensures nearer { OnOk result (work_left book.now self.new ≤ turns_to_compare (series_at book.now left) (series_at book.now right) order) }
     {
         let first = book.empty_value(left);
@@ -169,18 +175,23 @@ impl Work {
         &mut self,
         book: &Book,
         tables: &[Tableau],
+        memory: &mut Memory,
         found: Option<Coef>,
     ) -> Result<Option<Step>, AllocError>
         requires suits { Suits tables.now book.now }
         requires work { IsWork tables.now book.now self.old }
+        requires held { IsHeldWork book.now memory.old self.old }
+        requires memory { IsMemory tables.now book.now memory.old }
         requires handed { IsHanded tables.now book.now self.old found }
         ensures reply { OnOk result (whole_reply tables.now book.now self.new ≡ whole_reply tables.now book.now self.old) }
         ensures work { OnOk result (IsWork tables.now book.now self.new) }
+        ensures held { OnOk result (IsHeldWork book.now memory.new self.new) }
+        ensures memory { IsMemory tables.now book.now memory.new }
         ensures steps { IfOk result (λ step. IfSome step (StepsOn tables.now book.now self.new)) }
         ensures nearer { IfOk result (λ step. IfSome step (λ _. work_left book.now self.new < work_left book.now self.old)) }
         ensures whole { IfOk result (λ step. IfNone step (self.new.draft.items ≡ whole_reply tables.now book.now self.old)) }
     {
-        self.go_on::<Brand>(book, tables, found, Blank::new(1))
+        self.go_on::<Brand>(book, tables, memory, found, Blank::new(1))
     }
 
     /// One coefficient after another, until something is to be asked.
@@ -188,6 +199,7 @@ impl Work {
         &mut self,
         book: &Book,
         tables: &[Tableau],
+        memory: &mut Memory,
         mut found: Option<Coef>,
         blank: Blank,
     ) -> Result<Option<Step>, AllocError>
@@ -196,16 +208,20 @@ impl Work {
         requires some { 0 < blank.parts }
         requires suits { Suits tables.now book.now }
         requires work { IsWork tables.now book.now self.old }
+        requires held { IsHeldWork book.now memory.old self.old }
+        requires memory { IsMemory tables.now book.now memory.old }
         requires handed { IsHanded tables.now book.now self.old found }
         ensures reply { OnOk result (whole_reply tables.now book.now self.new ≡ whole_reply tables.now book.now self.old) }
         ensures work { OnOk result (IsWork tables.now book.now self.new) }
+        ensures held { OnOk result (IsHeldWork book.now memory.new self.new) }
+        ensures memory { IsMemory tables.now book.now memory.new }
         ensures steps { IfOk result (λ step. IfSome step (StepsOn tables.now book.now self.new)) }
         ensures nearer { IfOk result (λ step. IfSome step (λ _. work_left book.now self.new < work_left book.now self.old)) }
         ensures whole { IfOk result (λ step. IfNone step (self.new.draft.items ≡ whole_reply tables.now book.now self.old)) }
     {
         let mut steps = Steps::<L>::new(blank);
         'coefficients: while self.job.is_some() {
-            if let Some(step) = self.turn(book, tables, found, &mut steps)? {
+            if let Some(step) = self.turn(book, tables, memory, found, &mut steps)? {
                 return Ok(Some(step));
             }
             found = None;
@@ -219,21 +235,26 @@ impl Work {
         &mut self,
         book: &Book,
         tables: &[Tableau],
+        memory: &mut Memory,
         found: Option<Coef>,
         steps: &mut Steps<L>,
     ) -> Result<Option<Step>, AllocError>
         requires suits { Suits tables.now book.now }
         requires job { IsSome self.old.job }
         requires work { IsWork tables.now book.now self.old }
+        requires held { IsHeldWork book.now memory.old self.old }
+        requires memory { IsMemory tables.now book.now memory.old }
         requires handed { IsHanded tables.now book.now self.old found }
         ensures reply { OnOk result (whole_reply tables.now book.now self.new ≡ whole_reply tables.now book.now self.old) }
         ensures work { OnOk result (IsWork tables.now book.now self.new) }
+        ensures held { OnOk result (IsHeldWork book.now memory.new self.new) }
+        ensures memory { IsMemory tables.now book.now memory.new }
         ensures steps { IfOk result (λ step. IfSome step (StepsOn tables.now book.now self.new)) }
         ensures nearer { OnOk result (work_left book.now self.new < work_left book.now self.old) }
     {
         match &mut self.job {
             None => Ok(None),
-            Some(job) => match job.eval.next(book, tables, found, steps)? {
+            Some(job) => match job.eval.next(book, tables, memory, found, steps)? {
                 Ask::Look { series, code } => Ok(Some(Step::Look { series, code })),
                 Ask::Keep { series, code, coef } => Ok(Some(Step::Keep { series, code, coef })),
                 Ask::Done { coef } => {
@@ -248,6 +269,7 @@ impl Work {
     fn tell(&mut self, coef: Coef) -> Result<(), AllocError>
         ensures reply { (tables : List Table) (es : List Series) → IfSome self.old.job (λ job. coef ≡ value_at_pair tables es (pair_of job.task)) → OnOk result (whole_reply tables es self.new ≡ whole_reply tables es self.old) }
         ensures work { (tables : List Table) (es : List Series) → IfSome self.old.job (λ job. IsTask es job.task) → OnOk result (IsWork tables es self.new) }
+        ensures held { (es : List Series) (m : Left) → OnOk result (IsHeldWork es m self.new) }
         ensures nearer { (es : List Series) → IfSome self.old.job (λ job. OnOk result (work_left es self.new ≤ turns_behind es job.task)) }
     {
         let Some(job) = self.job.take() else {

@@ -23,4 +23,5 @@ returns-clause-begins c = λ tables.
     (omega (arith, n, c.if-order-gt-MAX_COEFF_ORDER.false))
     (λ ts. subst (λ (es : List Series). whole_reply ts es w ≡ coeff_line (written_at ts (series_at es id) tree.code)) book (c.coeff.ensures.reply ts))
     (λ ts. subst (λ (es : List Series). IsWork ts es w) book (c.coeff.ensures.work ts))
+    (λ m. c.coeff.ensures.held space.book m)
     (subst (λ (es : List Series). work_left es w ≤ suc (turns (series_at es id) tree.code)) book c.coeff.ensures.nearer)

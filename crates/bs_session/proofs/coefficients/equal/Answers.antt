@@ -24,4 +24,5 @@ returns-in_ok-equal-in-Ok-clause-begins c = λ tables.
     equal-begins tables space c.args.words w c.in-Some.left.now c.in-Some.right.now c.in-Some.order.now i j p c.in-Some.ensures c.in-Some-Some.ensures c.in-Some-Some.ensures' order
     (λ ts. subst (λ (es : List Series). whole_reply ts es w ≡ equal_reply ts (series_at es i) (series_at es j) p) book (done.reply ts))
     (λ ts. subst (λ (es : List Series). IsWork ts es w) book (done.work ts))
+    (λ m. done.held space.book m)
     (subst (λ (es : List Series). work_left es w ≤ turns_to_compare (series_at es i) (series_at es j) p) book done.nearer)

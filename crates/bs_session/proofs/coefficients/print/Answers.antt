@@ -22,4 +22,5 @@ returns-in_ok-print-in-Ok-clause-begins c = λ tables.
     print-begins tables space c.args.words w c.in-Some.series.now c.in-Some.order.now id p c.in-Some.ensures c.in-Some-series.ensures order
     (λ ts. subst (λ (es : List Series). whole_reply ts es w ≡ print_reply ts (series_at es id) p) book (done.reply ts))
     (λ ts. subst (λ (es : List Series). IsWork ts es w) book (done.work ts))
+    (λ m. done.held space.book m)
     (subst (λ (es : List Series). work_left es w ≤ turns_to_print (series_at es id) p) book done.nearer)

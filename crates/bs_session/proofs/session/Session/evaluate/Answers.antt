@@ -15,9 +15,9 @@ goes c =
     elim c.if-is_none.branch [
       | then-is_none+in_ok-worked w ↦
           let is = subst (λ (t : State). w.worked.new.self ≡ accepted (length t.out) (record t { out = t.out ++ t.work.draft.items; asked = asked.Nothing })) e.rest w.in_ok-worked.ensures in
-          goes-ended script old c.if-is_none.self mid.work c.in_ok-step.step c.is_none.result c.requires.sound c.requires.works e.goes c.is_none.ensures w.if-is_none.true (w.self-is ∙ is)
+          goes-ended script old c.if-is_none.self mid.work mid.memory c.in_ok-step.step c.is_none.result c.requires.sound c.requires.works e.goes c.is_none.ensures w.if-is_none.true (w.self-is ∙ is)
       | else-is_none w ↦
-          goes-asked script old c.if-is_none.self mid.work c.in_ok-step.step c.is_none.result c.requires.sound c.requires.works e.goes c.is_none.ensures w.if-is_none.false (w.self-is ∙ e.rest)
+          goes-asked script old c.if-is_none.self mid.work mid.memory c.in_ok-step.step c.is_none.result c.requires.sound c.requires.works e.goes c.is_none.ensures w.if-is_none.false (w.self-is ∙ e.rest)
     ]
 
 pub returns-clause-takes : goal.returns-clause-takes

@@ -5,14 +5,15 @@ use Rattle.bs_script.specs.Blocks.{ScriptLines}
 use Rattle.bs_session.specs.Errors.{error_number}
 use Rattle.bs_session.specs.Space.{known_of}
 use Rattle.bs_session.specs.Toil.{toil_of}
-use Rattle.bs_session.specs.Changes.{Says, Begins, IsBookOf}
+use Rattle.bs_session.specs.Changes.{Says, Begins, Asks, IsBookOf}
 use Rattle.bs_session.specs.Commands.{Outcome}
 use Rattle.bs_session.specs.Machine.{State, commands_of, outcome_at, line_at, plain_of, IsSound}
 use Rattle.bs_session.specs.Turns.{Settles}
 use Rattle.bs_session.specs.declared.asked.Asked.TheVariants as asked
+use Rattle.bs_session.specs.declared.live.LiveTree.{LiveTree}
 use Rattle.bs_session.specs.declared.step.Step.{Step}
 use Rattle.bs_session.specs.declared.change.Change.{Change}
-use Rattle.bs_session.proofs.Settled.{goes-settled, goes-refused, asking, map_ok, map_on_ok}
+use Rattle.bs_session.proofs.Settled.{goes-settled, goes-refused, asking, sound-asking, map_ok, map_on_ok}
 use Rattle.bs_session.proofs.Goes.{GoesFrom, Alike, takes-alike, goes-from, goes-alike, grown, sound-grown, alike-grown, known-grown, begun, sound-begun, alike-begun}
 use Rattle.bs_session.proofs.session.Session.turn.Goals as goal
 
@@ -103,3 +104,22 @@ returns-in-Ok-Begun-clause-nearer c =
     let alike = subst (λ (s : State). Alike c.args.script.now c.args.self.now (asking s asked.Value)) (sym c.self-in-Ok-Begun.view_is)
     (mid_alike c.args.script.now c.args.self.now c.carry.new.self c.requires.idle c.requires.more e.rest e.book carried) in
     map_on_ok _ _ c.evaluate.result (λ h. omega (arith, h, alike.nearer)) c.evaluate.ensures.nearer
+
+-- ---- a comparison that is asked for
+asked_sound : (script : ScriptLines) (old mid : State) (l r : LiveTree) → old.asked ≡ asked.Nothing → old.place < length (commands_of script old) → mid ≡ record old { out = mid.out; space = mid.space; work = mid.work }
+    → IsBookOf (plain_of script old) old.space mid.space → Asks mid.space (outcome_at script old) l r × (mid.out ≡ old.out) → IsSound script old → IsSound script (asking mid (asked.Same l r))
+asked_sound script old mid l r idle more rest book carried sound =
+    let before : State = grown old mid.space mid.work in
+    let same : mid ≡ before = rest ∙ ap (λ (o : List ℕ). let s : State = record old { out = o; space = mid.space; work = mid.work } in s) carried.1 in
+    let known = known-grown (plain_of script old) old.space mid.space book in
+    let outcome : outcome_at script before ≡ outcome_at script old = rw known refl in
+    let asks : Asks mid.space (outcome_at script before) l r = subst (λ (o : Outcome). Asks mid.space o l r) (sym outcome) carried.0 in
+    subst (λ (s : State). IsSound script (asking s (asked.Same l r))) (sym same)
+    (sound-asking script before (asked.Same l r) (sound-grown script old mid.space mid.work sound idle book) (more, asks))
+
+pub returns-in-Ok-Asked-clause-sound : goal.returns-in-Ok-Asked-clause-sound
+returns-in-Ok-Asked-clause-sound c =
+    let e = c.in-Ok-Asked.ensures in
+    let carried = rw c.in-Ok-Asked.field-0-is at e.carried in
+    subst (λ (s : State). IsSound c.args.script.now (asking s (asked.Same c.in-Ok-Asked.left c.in-Ok-Asked.right))) (sym c.self.view_is)
+    (asked_sound c.args.script.now c.args.self.now c.carry.new.self c.in-Ok-Asked.left c.in-Ok-Asked.right c.requires.idle c.requires.more e.rest e.book carried c.requires.sound)

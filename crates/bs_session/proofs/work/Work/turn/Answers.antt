@@ -7,3 +7,6 @@ returns-in_ok-tell-in-Done-clause-work g c =
     let tables = c.args.tables.now in
     let es = c.args.book.now in
     c.in_ok-tell-in-Done.ensures.work tables es (subst (IsJob tables es) c.in-Some.is c.requires.work).task
+
+pub returns-in_ok-tell-in-Done-clause-held : goal.returns-in_ok-tell-in-Done-clause-held
+returns-in_ok-tell-in-Done-clause-held g c = c.in_ok-tell-in-Done.ensures.held c.args.book.now c.next.new.memory

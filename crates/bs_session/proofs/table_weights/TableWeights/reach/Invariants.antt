@@ -1,5 +1,0 @@
-use Rattle.std.proofs.Common.{◌+◌, ◌-◌, length}
-use Rattle.bs_session.proofs.table_weights.TableWeights.reach.Given as goal
-
-abbrev pub decreases-places : goal.decreases-places
-decreases-places l = l.place + 1 - length l.self.each.items
