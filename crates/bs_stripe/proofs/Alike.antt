@@ -33,7 +33,7 @@ of_none s (e ∷ es) h = by_test s e.slot (λ b. (if b then 1 else 0) + slots s 
     (λ q z. of_none s es (omega arith))
     h
 
-of_some : (s : ℕ) (es : List table.Entry) → is_some (of_slot s es) ≡ nat_lt 0 (slots s es)
+pub of_some : (s : ℕ) (es : List table.Entry) → is_some (of_slot s es) ≡ nat_lt 0 (slots s es)
 of_some s [] = refl
 of_some s (e ∷ es) = by_test s e.slot (λ b. is_some (if b then kept e else of_slot s es) ≡ nat_lt 0 ((if b then 1 else 0) + slots s es))
     (λ q. sym (lt-ltb 0 (1 + slots s es) (omega arith)))
@@ -103,7 +103,7 @@ push_else t e [] n = ap (λ (b : Bool). if b then kept e else None) (ne_eqb t e.
 push_else t e (x ∷ xs) n = ap (λ (o : Option Entry). if t == x.slot then kept x else o) (push_else t e xs n)
 
 -- ---- all slots
-from_long : (s n : ℕ) (es : List table.Entry) → length (slots_from s n es) ≡ n
+pub from_long : (s n : ℕ) (es : List table.Entry) → length (slots_from s n es) ≡ n
 from_long s zero es = refl
 from_long s (suc n) es = ap suc (from_long (s + 1) n es)
 
@@ -123,7 +123,7 @@ from_last : (s n : ℕ) (es : List table.Entry) → slots_from s (suc n) es ≡ 
 from_last s zero es = ap (λ (t : ℕ). let r : List (Option Entry) = of_slot t es ∷ [] in r) (let q : s ≡ s + 0 = omega arith in q)
 from_last s (suc n) es = ap (λ (xs : List (Option Entry)). of_slot s es ∷ xs) (from_last (s + 1) n es ∙ ap (λ (t : ℕ). slots_from (s + 1) n es ++ of_slot t es ∷ []) (let q : (s + 1) + n ≡ s + suc n = omega arith in q))
 
-from_at : (s n j : ℕ) (es : List table.Entry) → j < n → entry_at j (slots_from s n es) ≡ of_slot (s + j) es
+pub from_at : (s n j : ℕ) (es : List table.Entry) → j < n → entry_at j (slots_from s n es) ≡ of_slot (s + j) es
 from_at s zero j es h = absurd (omega arith)
 from_at s (suc n) zero es h = ap (λ (t : ℕ). of_slot t es) (let q : s ≡ s + 0 = omega arith in q)
 from_at s (suc n) (suc j) es h = from_at (s + 1) n j es (omega arith) ∙ ap (λ (t : ℕ). of_slot t es) (let q : (s + 1) + j ≡ s + suc j = omega arith in q)
@@ -191,7 +191,7 @@ one_slot s zero e (x ∷ xs) at is =
     subst (λ b. 1 ≤ (if b then 1 else 0) + slots s xs) (sym (eq-eqb s x.slot q)) (omega arith)
 one_slot s (suc j) e (x ∷ xs) at is = let r = one_slot s j e xs at is in elim (s == x.slot) as (λ b. 1 ≤ (if b then 1 else 0) + slots s xs) [ true ↦ omega arith | false ↦ omega arith ]
 
-only_at : (s : ℕ) (j : ℕ) (e : table.Entry) (es : List table.Entry) → slots s es ≤ 1 → get_elem? es j ≡ some e → e.slot ≡ s → of_slot s es ≡ kept e
+pub only_at : (s : ℕ) (j : ℕ) (e : table.Entry) (es : List table.Entry) → slots s es ≤ 1 → get_elem? es j ≡ some e → e.slot ≡ s → of_slot s es ≡ kept e
 only_at s j e [] one at is = absurd (some-ne-none e (sym at))
 only_at s zero e (x ∷ xs) one at is =
     let q = some-injective x e at in

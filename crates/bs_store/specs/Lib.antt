@@ -1,0 +1,6 @@
+pub mod Rule
+pub mod Seats
+pub mod Closing
+pub mod Walks
+pub mod Reading
+pub mod Laws
