@@ -11,7 +11,7 @@ use std::sync::Wait;
 
 /// A pass, and names that it holds. Contracts see the pass.
 #[derive(Drop)]
-pub struct Holder {
+pub(crate) struct Holder {
     pass: Pass,
     names: VecDeque<Name>,
 }
@@ -29,7 +29,7 @@ impl Model for Holder {
 
 impl Holder {
     /// A pass with no name yet.
-    pub fn new(alloc: Global, pass: Pass) -> Holder
+    pub(crate) fn new(alloc: Global, pass: Pass) -> Holder
         ensures { result.store ≡ pass.store }
     {
         Holder {
@@ -39,7 +39,7 @@ impl Holder {
     }
 
     /// The pass.
-    pub fn into_pass(self) -> Pass
+    pub(crate) fn into_pass(self) -> Pass
         ensures { result.store ≡ self.store }
     {
         let Holder { pass, names: _ } = self;
@@ -47,7 +47,7 @@ impl Holder {
     }
 
     /// Interns the tree, and puts its name last.
-    pub fn intern<N: StoreName, R: Wait>(
+    pub(crate) fn intern<N: StoreName, R: Wait>(
         &mut self,
         rt: &R,
         store: &Store<N>,
@@ -62,7 +62,7 @@ impl Holder {
     }
 
     /// Gives the first name back.
-    pub fn release<N: StoreName, R: Wait>(&mut self, rt: &R, store: &Store<N>)
+    pub(crate) fn release<N: StoreName, R: Wait>(&mut self, rt: &R, store: &Store<N>)
         requires { self.old.store ≡ store.now.table }
         ensures { self.new.store ≡ store.now.table }
     {
@@ -73,7 +73,7 @@ impl Holder {
     }
 
     /// Holds the first name once more, and puts it last twice.
-    pub fn hold<N: StoreName, R: Wait>(
+    pub(crate) fn hold<N: StoreName, R: Wait>(
         &mut self,
         rt: &R,
         store: &Store<N>,
@@ -92,7 +92,7 @@ impl Holder {
     }
 
     /// The code of the first name, which is put last.
-    pub fn read<N: StoreName, R: Wait>(
+    pub(crate) fn read<N: StoreName, R: Wait>(
         &mut self,
         rt: &R,
         store: &Store<N>,
@@ -111,7 +111,7 @@ impl Holder {
     }
 
     /// Gives the first name to another pass, which puts it last.
-    pub fn give<N: StoreName, R: Wait>(
+    pub(crate) fn give<N: StoreName, R: Wait>(
         &mut self,
         rt: &R,
         store: &Store<N>,
@@ -129,7 +129,7 @@ impl Holder {
     }
 
     /// The two passes meet.
-    pub fn meet<N: StoreName>(&mut self, store: &Store<N>, other: &mut Holder)
+    pub(crate) fn meet<N: StoreName>(&mut self, store: &Store<N>, other: &mut Holder)
         requires { (self.old.store ≡ store.now.table) × (other.old.store ≡ store.now.table) }
         ensures { (self.new.store ≡ store.now.table) × (other.new.store ≡ store.now.table) }
     {
@@ -138,7 +138,7 @@ impl Holder {
 }
 
 /// Closes a store of one pass. `None` where the pass has another number than 0.
-pub fn close_one<N: StoreName>(
+pub(crate) fn close_one<N: StoreName>(
     alloc: Global,
     store: Store<N>,
     pass: Pass,
@@ -155,7 +155,7 @@ pub fn close_one<N: StoreName>(
 }
 
 /// Closes a store of two passes. `None` where their numbers are not 0 and 1.
-pub fn close_two<N: StoreName>(
+pub(crate) fn close_two<N: StoreName>(
     alloc: Global,
     store: Store<N>,
     first: Pass,

@@ -1,8 +1,7 @@
-//! Passes at work on a shared store, each with a list of names that it holds.
+//! Worked rows of the shared store, as tests alone: passes that meet, read and give, two threads at work, and subtrees that are shared.
 #![tactic(auto)]
 
+#[cfg(test)]
 mod holder;
 #[cfg(test)]
 mod tests;
-
-pub use holder::{Holder, close_one, close_two};

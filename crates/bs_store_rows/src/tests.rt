@@ -2,7 +2,7 @@
 ghost use Rattle.std.specs.Prelude.{◌≡◌, vec_len};
 ghost use Rattle.bs_store.specs.Seats.{NewPasses};
 
-use crate::{Holder, close_one, close_two};
+use crate::holder::{Holder, close_one, close_two};
 use bs_store::{Pass, Store, StoreName, StoreParts};
 use bs_tree::Code;
 use std::alloc::{AllocError, Global};
