@@ -1,9 +1,9 @@
 -- A frame's product and its sum, one value after another.
-use Rattle.std.proofs.Common.{◌≡◌, ℕ, zero, suc, ◌+◌, ◌<◌, ◌≤◌, List, [], ◌∷◌, ◌++◌, map, take, drop, fold, length, Option, Some, None, option_map, is_some, false, slice_get, MatchOption, IsSomeAnd, ◌⊎◌, inl, inr, refl, sym, ◌∙◌, ap, ap₂, subst, arith}
+use Rattle.std.proofs.Common.{◌≡◌, ℕ, zero, suc, ◌+◌, ◌<◌, ◌≤◌, List, [], ◌∷◌, ◌++◌, map, take, drop, fold, length, Option, Some, None, option_map, is_some, false, get_or, slice_get, MatchOption, IsSomeAnd, ◌⊎◌, inl, inr, refl, sym, ◌∙◌, ap, ap₂, subst, arith}
 use Rattle.std.specs.List.{AllByRecursion}
 use Rattle.std.proofs.lemmas.List.{take_all, length-map, length-replicate}
 use Rattle.std.proofs.lemmas.List.Sums.{fold-append}
-use Rattle.std.proofs.lemmas.Option.{slice_get-map, slice_get_within}
+use Rattle.std.proofs.lemmas.Option.{slice_get-map, slice_get_within, slice_get-get_or}
 use Rattle.bs_frac.specs.Fraction.{whole}
 use Rattle.bs_frac.specs.Written.{checked, product_all}
 use Rattle.bs_frac.specs.declared.coef.Coef.{Coef}
@@ -210,6 +210,11 @@ rest_length_is es cs (rest.Powers by count) = length-replicate count (fixed by)
 
 pub term_length_is : (es : List Series) (cs : List Code) (t : Term) → length (step_in es cs t).factors ≡ term_length t
 term_length_is es cs t = ap suc (rest_length_is es cs t.rest)
+
+pub factor_there : (es : List Series) (cs : List Code) (t : Term) (k : ℕ) → k < term_length t → (f : Factor Code) × (slice_get (step_in es cs t).factors k ≡ Some f)
+factor_there es cs t k l =
+    let fs = (step_in es cs t).factors in
+    (get_or fs k (fixed (whole 0)), slice_get-get_or fs k (fixed (whole 0)) (omega (arith, l, term_length_is es cs t)))
 
 pub none_case : {X A : Type 0} (P : X → Type 0) (r : Option X) → MatchOption r A P → r ≡ None → A
 none_case P None h e = h

@@ -1,9 +1,13 @@
 -- Remembered values that stay right: where a value is kept, where the catalog grows, and where the book grows.
-use Rattle.std.proofs.Common.{◌≡◌, ◌⊎◌, ℕ, zero, suc, ◌<◌, ◌≤◌, List, [], ◌∷◌, length, Some, None, Option, IfSome, slice_get, refl, sym, ◌∙◌, ap, subst, inl, inr, ⊎_elim, arith}
+use Rattle.std.proofs.Common.{◌≡◌, ◌⊎◌, ℕ, zero, suc, ◌<◌, ◌≤◌, List, [], ◌∷◌, length, Some, None, Option, IsNone, IfSome, MatchOption, slice_get, refl, sym, ◌∙◌, ap, subst, inl, inr, ⊎_elim, arith}
 use Rattle.std.proofs.Math.ListN.{set}
 use Rattle.bs_frac.specs.declared.coef.Coef.{Coef}
+use Rattle.bs_frac.specs.declared.coef.Coef.TheVariants.{Value}
 use Rattle.bs_tableau.specs.Table.{Table}
 use Rattle.bs_series.specs.Series.{Series}
+use Rattle.bs_series.specs.Value.{exact_value}
+use Rattle.bs_tree.specs.Code.{tree_of}
+use Rattle.bs_eval.specs.Terms.{code_at}
 use Rattle.bs_series.specs.SeriesCode.{Code, written_at}
 use Rattle.bs_series.specs.Expressions.{series_at}
 use Rattle.std.proofs.lemmas.Option.{get_or_from_slice_get, slice_get-get_or}
@@ -25,10 +29,15 @@ values_keep tables es cs old mid new id tree value c c' are is f more at takes g
   flows = λ n v h. are.flows n v (subst (λ (x : Column). in_column (Some x) n ≡ Some v) (g ∙ f) h);
 }
 
-pub recall_is : (tables : List Table) (es : List Series) (cs : List Code) (values : Values) (id n : ℕ) (c : Column) (r : Option Coef) → AreValues tables es cs values
-    → slice_get values.columns.items id ≡ Some c → r ≡ in_column (Some c) n → IfSome r (IsValue tables es cs id n)
-recall_is tables es cs values id n c None are at e = tt
-recall_is tables es cs values id n c (Some v) are at e = are.series id n v (ap (λ (o : Option Column). in_column o n) at ∙ sym e)
+pub recall_is : {R : Type 0} (now : R → Coef) (tables : List Table) (es : List Series) (cs : List Code) (values : Values) (id n : ℕ) (c : Column) (r : Option R) → AreValues tables es cs values
+    → slice_get values.columns.items id ≡ Some c → MatchOption r (IsNone (in_column (Some c) n)) (λ v. in_column (Some c) n ≡ Some (now v)) → IfSome r (λ v. IsValue tables es cs id n (now v))
+recall_is now tables es cs values id n c None are at e = tt
+recall_is now tables es cs values id n c (Some v) are at e = are.series id n (now v) (ap (λ (o : Option Column). in_column o n) at ∙ e)
+
+pub flow_is : {R : Type 0} (now : R → Coef) (tables : List Table) (es : List Series) (cs : List Code) (values : Values) (n : ℕ) (r : Option R) → AreValues tables es cs values
+    → MatchOption r (IsNone (in_column (Some values.flows) n)) (λ v. in_column (Some values.flows) n ≡ Some (now v)) → IfSome r (λ v. now v ≡ Value (exact_value (tree_of (code_at cs n))))
+flow_is now tables es cs values n None are e = tt
+flow_is now tables es cs values n (Some v) are e = (are.flows n (now v) e).1
 
 pub direct_is : (tables : List Table) (es : List Series) (cs : List Code) (id n : ℕ) (code : Code) (v : Coef) → id < length es → n < length cs → slice_get cs n ≡ Some code
     → v ≡ written_at tables (series_at es id) code → IsValue tables es cs id n v

@@ -1,5 +1,5 @@
 -- The factors of a term by their places, and values with a sign.
-use Rattle.std.proofs.Common.{◌≡◌, ℕ, zero, suc, ◌+◌, ◌-◌, ◌*◌, ◌/◌, ◌%◌, ◌<◌, ◌≤◌, List, [], ◌∷◌, map, replicate, length, Some, slice_get, refl, sym, ◌∙◌, ap, subst, arith, ℤ, pos, negsuc}
+use Rattle.std.proofs.Common.{◌≡◌, ℕ, zero, suc, ◌+◌, ◌-◌, ◌*◌, ◌/◌, ◌%◌, ◌<◌, ◌≤◌, List, [], ◌∷◌, map, replicate, length, Option, Some, None, IfSome, slice_get, refl, sym, ◌∙◌, ap, subst, arith, ℤ, pos, negsuc}
 use Rattle.bs_frac.specs.Written.{checked, opposite_coef}
 use Rattle.bs_frac.specs.Fraction.{Fraction}
 use Rattle.bs_frac.specs.declared.coef.Coef.{Coef}
@@ -7,7 +7,9 @@ use Rattle.bs_frac.specs.declared.coef.Coef.TheVariants.{Value, Overflow}
 use Rattle.bs_series.specs.Series.{Series}
 use Rattle.bs_series.specs.Value.{signed_by}
 use Rattle.bs_series.specs.Plan.{Factor, fixed, at, turned}
-use Rattle.bs_series.specs.SeriesCode.{Code}
+use Rattle.bs_series.specs.SeriesCode.{Code, factor_at, written_at}
+use Rattle.bs_tableau.specs.Table.{Table}
+use Rattle.bs_eval.specs.Values.{IsValue}
 use Rattle.bs_series.specs.Expressions.{series_at}
 use Rattle.bs_eval.specs.Terms.{code_at, rest_in, RestIn}
 use Rattle.bs_eval.specs.declared.term.Rest.{Rest}
@@ -45,3 +47,13 @@ each_in n m r id p x ns is h i = let j : RestIn n m (rest.Each id ns) = subst (R
 
 pub turned_in : (n m : ℕ) (r : Rest) (id p x : ℕ) (ns : _) → r ≡ rest.Turned id ns → slice_get ns.now p ≡ Some x → RestIn n m r → (id < n) × (x < m)
 turned_in n m r id p x ns is h i = let j : RestIn n m (rest.Turned id ns) = subst (RestIn n m) is i in (j.0, all_of (λ t. t < m) ns.now p x j.1 h)
+
+-- ---- the value of a factor, where that of its series at its tree is there
+module _ {R : Type 0} (now : R → Coef) (tables : List Table) (es : List Series) (cs : List Code) (first : Factor Code) (id : ℕ) (place p n : ℕ) (e : place ≡ suc p) where
+  pub each_value : (r : Rest) (ns : _) → r ≡ rest.Each id ns → slice_get ns.now p ≡ Some n → (o : Option R) → IfSome o (λ v. IsValue tables es cs id n (now v))
+      → (factor : Factor Code) → slice_get (first ∷ rest_in es cs r) place ≡ Some factor → IfSome o (λ v. now v ≡ factor_at checked (written_at tables) factor)
+  each_value r ns is h None value factor at-place = tt
+  each_value r ns is h (Some v) value factor at-place =
+      let same : Some (at (series_at es id) (code_at cs n)) ≡ Some factor = sym (each_factor es cs first id place p n e r ns is h) ∙ at-place in
+      let z : at (series_at es id) (code_at cs n) ≡ factor = cc in
+      value.value ∙ ap (factor_at checked (written_at tables)) z

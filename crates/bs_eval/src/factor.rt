@@ -48,6 +48,17 @@ impl Factor {
         }
     }
 
+    /// The value of the factor, where it is remembered as it is.
+    pub(crate) fn remembered<'v>(&self, values: &'v Values) -> Option<&'v Coef>
+        ensures { (tables : List Table) (es : List Series) (cs : List Pairs) → AreValues tables es cs values.now → IfSome result (λ value. value.now ≡ factor_at checked (written_at tables) (factor_in es cs self.now)) }
+    {
+        match self {
+            Factor::At { series, tree } => values.recall(*series, *tree),
+            Factor::Flow { tree } => values.recall_flow(*tree),
+            Factor::Fixed { .. } | Factor::Turned { .. } => None,
+        }
+    }
+
     /// The value of the factor, where that of its series at its tree is handed in.
     pub(crate) fn handed(&self, trees: &Catalog, value: Coef) -> Coef
         requires { (n : ℕ) × FactorIn n (length trees.now.codes) self.now }

@@ -13,6 +13,7 @@ ghost use Rattle.bs_eval.specs.Values.{AreValues, IsLookedUp};
 ghost use Rattle.bs_eval.specs.Turns.{pair_calls, ahead, rest};
 ghost use Rattle.bs_eval.specs.Frames.{pair_of, wanted_pair, extended, factors_at, HasFactor, ProductIs, IsReady, IsPlanned, IsOn, HasCome, Awaits, IsAwaited};
 
+use crate::carry::{bring, extend, one};
 use crate::factor::Wanted;
 use crate::pair::Pair;
 use crate::plan::{Spot, term_at};
@@ -35,46 +36,6 @@ pub(crate) struct Frame {
     pub(crate) place: usize,
     pub(crate) known: usize,
     pub(crate) product: Coef,
-}
-
-/// The product of no factor.
-fn one() -> Coef
-    ensures { result ≡ product_all checked [] }
-{
-    Coef::Value(Frac::whole(1))
-}
-
-/// A product with one more factor; of a divisor, the factor itself.
-fn extended(product: &Coef, operation: Operation, factor: &Coef) -> Coef
-    ensures { result ≡ extended product.now operation factor.now }
-{
-    match operation {
-        Operation::Add | Operation::Subtract => product.times(factor),
-        Operation::Divide => *factor,
-    }
-}
-
-/// The sum with a term's product. The divisor is 0 in no plan of a book that suits its tableaux: a modifying series is accepted
-/// only where its operand is not written as 0 at the leaf. It is tested here, so that each step has a value.
-fn applied(sum: &Coef, operation: Operation, product: &Coef) -> Coef
-    ensures { result ≡ brought sum.now operation product.now }
-{
-    match operation {
-        Operation::Add => sum.plus(product),
-        Operation::Subtract => sum.minus(product),
-        Operation::Divide => divided(sum, product),
-    }
-}
-
-/// The quotient, Overflow where the divisor is 0.
-fn divided(sum: &Coef, by: &Coef) -> Coef
-    ensures { result ≡ over by.now sum.now }
-{
-    if by.is_zero() {
-        Coef::Overflow
-    } else {
-        sum.quotient(by)
-    }
 }
 
 impl Frame {
@@ -124,14 +85,17 @@ impl Frame {
         ensures values { (tables : List Table) → AreValues tables book.now trees.now.codes values.old → AreValues tables book.now trees.now.codes values.new }
     {
         'factors: for place in self.known..term.len() {
-            let factor = term.factor(place);
-            match factor.settled(book, trees, values) {
-                None => return factor.wanted(),
-                Some(value) => {
-                    self.product = extended(&self.product, term.operation, &value);
-                    self.known = place + 1;
+            match term.remembered(place, values) {
+                Some(value) => extend(&mut self.product, term.operation, value),
+                None => {
+                    let factor = term.factor(place);
+                    match factor.settled(book, trees, values) {
+                        None => return factor.wanted(),
+                        Some(value) => extend(&mut self.product, term.operation, &value),
+                    }
                 }
             }
+            self.known = place + 1;
         }
         None
     }
@@ -141,7 +105,7 @@ impl Frame {
         requires { self.old.place < 2 ^ 20 }
         ensures { self.new ≡ record self.old { sum = brought self.old.sum operation self.old.product; place = suc self.old.place; known = 0; product = product_all checked [] } }
     {
-        self.sum = applied(&self.sum, operation, &self.product);
+        bring(&mut self.sum, operation, &self.product);
         self.place += 1;
         self.known = 0;
         self.product = one();
@@ -211,7 +175,7 @@ impl Frame {
             if self.known < term.len() {
                 let factor = term.factor(self.known);
                 let value = factor.handed(trees, value);
-                self.product = extended(&self.product, term.operation, &value);
+                extend(&mut self.product, term.operation, &value);
                 self.known += 1;
             }
         }

@@ -1,6 +1,7 @@
 //! The evaluation of a series at a tree, as a machine that asks its driver for remembered values.
 #![tactic(auto)]
 
+mod carry;
 mod direct;
 mod eval;
 mod factor;

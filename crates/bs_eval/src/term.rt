@@ -1,12 +1,17 @@
 //! The terms of a plan, with numbers in place of trees.
 
-ghost use Rattle.std.specs.Prelude.{◌≡◌, ◌<◌, List, length, suc, Some, slice_get, ℕ};
+ghost use Rattle.std.specs.Prelude.{◌≡◌, ◌<◌, List, length, suc, Some, IfSome, slice_get, ℕ};
+ghost use Rattle.bs_frac.specs.Written.{checked};
+ghost use Rattle.bs_tableau.specs.Table.{Table};
 ghost use Rattle.bs_series.specs.Series.{Series};
-ghost use Rattle.bs_series.specs.SeriesCode.{Code as Pairs};
+ghost use Rattle.bs_series.specs.Plan.{Factor as SomeFactor};
+ghost use Rattle.bs_series.specs.SeriesCode.{Code as Pairs, factor_at, written_at};
 ghost use Rattle.bs_eval.specs.Terms.{step_in, factor_in, term_length, TermIn, FactorIn};
+ghost use Rattle.bs_eval.specs.Values.{AreValues};
 
 use crate::factor::Factor;
-use bs_frac::Frac;
+use crate::values::Values;
+use bs_frac::{Coef, Frac};
 use bs_series::SeriesId;
 
 /// What becomes of the sum with a term.
@@ -53,6 +58,21 @@ impl Term<'_> {
             Rest::One { .. } => 2,
             Rest::Each { trees, .. } | Rest::Turned { trees, .. } => one_more(trees),
             Rest::Powers { count, .. } => usize::from(*count) + 1,
+        }
+    }
+
+    /// The value of the factor at this place, where it is remembered as it is.
+    pub(crate) fn remembered<'v>(&self, place: usize, values: &'v Values) -> Option<&'v Coef>
+        requires { place < term_length self.now }
+        ensures { (tables : List Table) (es : List Series) (cs : List Pairs) (factor : SomeFactor Pairs) → AreValues tables es cs values.now → slice_get (step_in es cs self.now).factors place ≡ Some factor → IfSome result (λ value. value.now ≡ factor_at checked (written_at tables) factor) }
+    {
+        if place == 0 {
+            return self.first.remembered(values);
+        }
+        match &self.rest {
+            Rest::Each { series, trees } => values.recall(*series, tree_at(trees, place - 1)),
+            Rest::One { factor } => factor.remembered(values),
+            Rest::Nothing | Rest::Turned { .. } | Rest::Powers { .. } => None,
         }
     }
 

@@ -1,6 +1,6 @@
 //! Remembered values of series at trees, in columns: one for each series, by the numbers of the trees.
 
-ghost use Rattle.std.specs.Prelude.{◌≡◌, ◌<◌, ◌↔◌, List, length, IfSome, IfNone, IsNone, OnOk, OnErr, Some, [], ℕ};
+ghost use Rattle.std.specs.Prelude.{◌≡◌, ◌<◌, ◌↔◌, List, length, IfSome, IfNone, IsNone, MatchOption, OnOk, OnErr, Some, [], ℕ};
 ghost use Rattle.bs_frac.specs.declared.coef.Coef.{Coef as Value};
 ghost use Rattle.bs_frac.specs.declared.coef.Coef.TheVariants.{Value as Fraction};
 ghost use Rattle.bs_tree.specs.Code.{tree_of};
@@ -44,12 +44,12 @@ impl Column {
     }
 
     /// The value at this place.
-    fn get(&self, place: usize) -> Option<Coef>
-        ensures { result ≡ in_column (Some self.now) place }
+    fn get(&self, place: usize) -> Option<&Coef>
+        ensures { MatchOption result (IsNone (in_column (Some self.now) place)) (λ value. in_column (Some self.now) place ≡ Some value.now) }
     {
         match self.values.get(place) {
-            Some(value) => *value,
-            None => None,
+            Some(Some(value)) => Some(value),
+            _ => None,
         }
     }
 
@@ -87,13 +87,20 @@ impl Values {
     }
 
     /// The value of a series at a tree, where it is remembered.
-    pub(crate) fn recall(&self, series: SeriesId, tree: u32) -> Option<Coef>
-        ensures { (tables : List Table) (es : List Series) (cs : List Pairs) → AreValues tables es cs self.now → IfSome result (IsValue tables es cs series tree) }
+    pub(crate) fn recall(&self, series: SeriesId, tree: u32) -> Option<&Coef>
+        ensures { (tables : List Table) (es : List Series) (cs : List Pairs) → AreValues tables es cs self.now → IfSome result (λ value. IsValue tables es cs series tree value.now) }
     {
         match self.columns.get(series.place()) {
             Some(column) => column.get(tree as usize),
             None => None,
         }
+    }
+
+    /// The value of the exact flow at a tree, where it is remembered.
+    pub(crate) fn recall_flow(&self, tree: u32) -> Option<&Coef>
+        ensures { (tables : List Table) (es : List Series) (cs : List Pairs) → AreValues tables es cs self.now → IfSome result (λ value. value.now ≡ Fraction (exact_value (tree_of (code_at cs tree)))) }
+    {
+        self.flows.get(tree as usize)
     }
 
     /// Remembers a value.
@@ -138,7 +145,7 @@ impl Values {
         ensures values { (tables : List Table) → AreValues tables book.now trees.now.codes self.old → AreValues tables book.now trees.now.codes self.new }
     {
         if let Some(value) = self.recall(series, tree) {
-            return Some(value);
+            return Some(*value);
         }
         let value = direct_value(book, series, &trees.code(tree))?;
         let kept = value;
@@ -152,8 +159,8 @@ impl Values {
         ensures value { (tables : List Table) (es : List Series) → AreValues tables es trees.now.codes self.old → result ≡ Fraction (exact_value (tree_of (code_at trees.now.codes tree))) }
         ensures values { (tables : List Table) (es : List Series) → AreValues tables es trees.now.codes self.old → AreValues tables es trees.now.codes self.new }
     {
-        if let Some(value) = self.flows.get(tree as usize) {
-            return value;
+        if let Some(value) = self.recall_flow(tree) {
+            return *value;
         }
         let value = exact_value(&trees.code(tree));
         let kept = value;

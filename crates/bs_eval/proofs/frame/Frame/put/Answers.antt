@@ -12,8 +12,8 @@ returns-then-self-len-clause-on c = λ tables p aw is on.
     let es = c.args.book.now in
     let cs = c.args.trees.now.codes in
     let f = c.args.self.now in
-    put_on tables es cs f _ (step_in es cs c.in-Some.term) c.factor-factor.result p c.args.value c.handed-value.result c.extended-self.result (c.in-Some.ensures.term f.code c.requires.placed) (c.factor-factor.ensures.is es cs) aw is
-    (c.handed-value.ensures tables es) c.extended-self.ensures refl on
+    put_on tables es cs f _ (step_in es cs c.in-Some.term) c.factor-factor.result p c.args.value c.handed-value.result c.extend.new.product (c.in-Some.ensures.term f.code c.requires.placed) (c.factor-factor.ensures.is es cs) aw is
+    (c.handed-value.ensures tables es) c.extend.ensures refl on
 
 pub returns-else-self-len-clause-stays : goal.returns-else-self-len-clause-stays
 returns-else-self-len-clause-stays c =

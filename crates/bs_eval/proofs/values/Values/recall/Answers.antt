@@ -7,4 +7,4 @@ use Rattle.bs_eval.proofs.values.Values.recall.Goals as goal
 pub returns-in-Some : goal.returns-in-Some
 returns-in-Some c = λ tables es cs are.
     let at : slice_get c.args.self.now.columns.items c.args.series ≡ Some c.in-Some.column.now = grind (arith, common_steps, gets, c.in-Some.ensures.lookup, c.deref.ensures.value, c.place.ensures) in
-    recall_is tables es cs c.args.self.now c.args.series c.args.tree c.in-Some.column.now c.get-in-Some.result are at c.get-in-Some.ensures
+    recall_is (λ v. v.now) tables es cs c.args.self.now c.args.series c.args.tree c.in-Some.column.now c.get-in-Some.result are at c.get-in-Some.ensures
