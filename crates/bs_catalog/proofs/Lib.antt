@@ -1,8 +1,8 @@
 mod RowLists
 mod Merging
 mod FirstChild
-mod RowLaws
+pub mod RowLaws
 mod Tables
-mod Remembering
-mod Putting
-mod Shelving
+pub mod Remembering
+pub mod Putting
+pub mod Shelving

@@ -1,4 +1,4 @@
--- What is remembered of trees by number, as private functions speak of it.
+-- What is made of two trees by number, and what is remembered of trees, as private functions speak of it.
 --
 --   Extends cs cs'       == each number of cs is one of cs', with the same code
 --   entry table a b      == the number at row a and place b of a table, 0 where there is none

@@ -1,7 +1,8 @@
 //! Trees by number. Contracts see a `Catalog` as a shelf of codes and of rows.
-ghost use Rattle.std.specs.Prelude.{◌≡◌, ◌<◌, ◌⊎◌, ◌↔◌, IsTrue, ℕ, [], ◌∷◌, length, OnOk, IfOk, Some, slice_get};
+ghost use Rattle.std.specs.Prelude.{◌≡◌, ◌<◌, ◌⊎◌, ◌↔◌, IsTrue, ℕ, [], ◌∷◌, length, OnOk, IfOk, IfSome, None, Some, slice_get};
 ghost use Rattle.bs_tree.specs.Code.{child_codes};
-ghost use Rattle.bs_catalog.specs.Making.{without_first};
+ghost use Rattle.bs_catalog.specs.Making.{attached, merged, without_first, AreHalves};
+ghost use Rattle.bs_catalog.specs.Memo.{Makes};
 ghost use Rattle.bs_catalog.specs.Shelf.{Code as Pairs, Numbers, AreRows, split_rows, part_rows, rows_at, HasSplits, HasParts, Grows};
 
 use crate::arena::{Arena, without_first};
@@ -30,6 +31,13 @@ impl Model for Catalog {
     ghost view = { λ a. record { codes = a.arena; splits = a.split_lists.items; parts = a.part_lists.items } };
 
     ghost invariant = { λ a. HoldsRows split_rows a.arena a.split_lists.items × HoldsRows part_rows a.arena a.part_lists.items };
+}
+
+/// The numbers of a tree's first child, and of the tree without it.
+#[derive(Clone, Copy)]
+pub struct Halves {
+    pub child: u32,
+    pub rest: u32,
 }
 
 /// Whether there are rows at a number.
@@ -92,6 +100,41 @@ impl Catalog {
         ensures is { IfOk result (λ n. Numbers self.new.codes n code.now) }
     {
         self.arena.number(code)
+    }
+
+    /// The number of the first tree with the second as one more child.
+    pub fn attach(&mut self, first: u32, second: u32) -> Result<u32, AllocError>
+        ensures grows { Grows self.old self.new }
+        ensures is { IfOk result (λ n. Makes attached self.new.codes first second n) }
+    {
+        self.arena.attach(first, second)
+    }
+
+    /// The number of the first tree with the children of the second's root as well.
+    pub fn merge(&mut self, first: u32, second: u32) -> Result<u32, AllocError>
+        ensures grows { Grows self.old self.new }
+        ensures is { IfOk result (λ n. Makes merged self.new.codes first second n) }
+    {
+        self.arena.merge(first, second)
+    }
+
+    /// The first child of a tree and the tree without it, where it has more than one node.
+    pub fn halves(&mut self, number: u32) -> Result<Option<Halves>, AllocError>
+        requires { number < length self.old.codes }
+        ensures grows { Grows self.old self.new }
+        ensures none { (code : Pairs) → Numbers self.old.codes number code → IfOk result (λ halves. (halves ≡ None) ↔ (length (child_codes code) ≡ 0)) }
+        ensures some { (code : Pairs) → Numbers self.old.codes number code → IfOk result (λ halves. IfSome halves (λ h. AreHalves self.new.codes code h.child h.rest)) }
+    {
+        let code = self.code(number);
+        if code.arity() == 0 {
+            return Ok(None);
+        }
+        let Some(later) = without_first(&code) else {
+            return Err(AllocError);
+        };
+        let child = self.number(&code.child(0))?;
+        let rest = self.number(&later)?;
+        Ok(Some(Halves { child, rest }))
     }
 
     fn has_splits(&self, number: u32) -> bool

@@ -10,5 +10,6 @@ mod rows;
 mod tests;
 mod way;
 
-pub use catalog::Catalog;
+pub use catalog::{Catalog, Halves};
 pub use rows::Rows;
+pub use way::Way;

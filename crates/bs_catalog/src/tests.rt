@@ -197,3 +197,27 @@ fn rows_of_a_chain_of_three(rt: HostRuntime) -> Result<(), Fail> {
     assert!(rt; has_parts(rt.alloc(), &mut catalog, &chain, &parts)?);
     Ok(())
 }
+
+#[test]
+fn a_tree_is_its_first_child_on_the_rest(rt: HostRuntime) -> Result<(), Fail> {
+    let mut catalog = Catalog::new(rt.alloc());
+    for (levels, colours) in TREES {
+        let code = code_of(rt.alloc(), levels, colours)?;
+        let tree = catalog.number(&code)?;
+        match catalog.halves(tree)? {
+            Some(halves) => assert_eq!(rt; catalog.attach(halves.rest, halves.child)?, tree),
+            None => assert_eq!(rt; levels, "1"),
+        }
+    }
+    Ok(())
+}
+
+#[test]
+fn two_roots_become_one(rt: HostRuntime) -> Result<(), Fail> {
+    let mut catalog = Catalog::new(rt.alloc());
+    let chain = catalog.number(&code_of(rt.alloc(), "123", "012")?)?;
+    let pair = catalog.number(&code_of(rt.alloc(), "12", "31")?)?;
+    let both = catalog.number(&code_of(rt.alloc(), "1232", "0121")?)?;
+    assert_eq!(rt; catalog.merge(chain, pair)?, both);
+    Ok(())
+}
