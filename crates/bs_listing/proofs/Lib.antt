@@ -1,0 +1,5 @@
+mod Fronts
+mod BySide
+mod TreeTexts
+mod Lines
+mod Replies

@@ -1,0 +1,4 @@
+pub mod Items
+pub mod Texts
+pub mod Sides
+pub mod Writes
