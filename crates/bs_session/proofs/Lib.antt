@@ -14,7 +14,3 @@ mod Jobs
 mod Reading
 mod Walked
 mod OrderTold
-mod RowLines
-mod Appended
-mod RowCounts
-mod ItemReplies

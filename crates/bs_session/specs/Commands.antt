@@ -41,6 +41,7 @@ use Rattle.bs_tableau.specs.WrittenWeight.{written_weight}
 use Rattle.bs_series.specs.Series.{Series, exact, identity, average, method, compose, inverse, adjoint, substitute, modified, modifying, scale, empty_value, colours_of}
 use Rattle.bs_series.specs.Value.{table_at}
 use Rattle.bs_series.specs.SeriesCode.{written_at}
+use Rattle.bs_listing.specs.Items.{split_reply, partition_reply}
 use Rattle.bs_reply.specs.Lines.{tree_line, drop_line, same_line, info_line, weight_line, series_line, coeff_line}
 use Rattle.bs_session.specs.Errors.{error_of}
 use Rattle.bs_session.specs.Names.{at}
@@ -48,7 +49,6 @@ use Rattle.bs_session.specs.Known.{Known, Tables, with_tree, without_tree, with_
 use Rattle.bs_session.specs.Verbs.{verb_of}
 use Rattle.bs_session.specs.Asked.{order_to, colours_to, trees_asked, order_asked, order_shared}
 use Rattle.bs_session.specs.OrderConditions.{trees_reply, conditions_reply, order_reply}
-use Rattle.bs_session.specs.Items.{split_reply, partition_reply}
 use Rattle.bs_session.specs.Acceptance.{made_of}
 use Rattle.bs_session.specs.Operations.{operation_of}
 use Rattle.bs_session.specs.SeriesReplies.{print_reply, equal_reply}

@@ -4,8 +4,6 @@ pub mod Known
 pub mod Verbs
 pub mod Asked
 pub mod OrderConditions
-pub mod Items
-pub mod RowLines
 pub mod Acceptance
 pub mod Operations
 pub mod SeriesReplies

@@ -12,7 +12,6 @@ mod conditions;
 mod error;
 #[cfg(test)]
 mod item_tests;
-mod items;
 pub mod laws;
 #[cfg(test)]
 mod list_tests;
@@ -22,7 +21,6 @@ mod live_tests;
 mod namespace;
 mod number;
 mod operation;
-mod rows;
 mod seen;
 mod series;
 #[cfg(test)]
