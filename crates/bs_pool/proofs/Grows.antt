@@ -20,10 +20,10 @@ abbrev hand_of : Owner → Hand
 hand_of v = worker_view v
 
 pub stays_same : (a : Seat) → Stays a a
-stays_same a = record { deque = refl; parts = refl; put = refl; crew = refl }
+stays_same a = record { worker = refl; deque = refl; parts = refl; put = refl; crew = refl }
 
 pub stays_then : (a b c : Seat) → Stays a b → Stays b c → Stays a c
-stays_then a b c s t = record { deque = t.deque ∙ s.deque; parts = t.parts ∙ s.parts; put = t.put ∙ s.put; crew = t.crew ∙ s.crew }
+stays_then a b c s t = record { worker = t.worker ∙ s.worker; deque = t.deque ∙ s.deque; parts = t.parts ∙ s.parts; put = t.put ∙ s.put; crew = t.crew ∙ s.crew }
 
 pub none_taken : (a : Seat) → Took [] a a
 none_taken a = record { stays = stays_same a; done = refl; short = refl; taken = λ x. omega arith }
@@ -56,20 +56,20 @@ stolen x ts i d t (Some job) l e =
     let a = ap (times x) e ∙ times_append x (taken (get_or ts i d)) (job ∷ []) in omega arith
 
 -- thieves were at work, and nothing else
-pub thieves_took : (got : List ℕ) (a b : Seat) → b.deque ≡ a.deque → b.done ≡ a.done → b.short ≡ a.short → crew_of b.thieves.items ≡ crew_of a.thieves.items
+pub thieves_took : (got : List ℕ) (a b : Seat) → b.worker ≡ a.worker → b.deque ≡ a.deque → b.done ≡ a.done → b.short ≡ a.short → crew_of b.thieves.items ≡ crew_of a.thieves.items
     → ((x : ℕ) → carried x b.thieves.items ≡ carried x a.thieves.items + times x got) → Took got a b
-thieves_took got a b w d s c h = record {
-  stays = record { deque = ap (λ (v : Owner). worker_deque v) w; parts = ap (λ (v : Owner). (hand_of v).parts) w; put = ap (λ (v : Owner). (hand_of v).put) w; crew = c };
+thieves_took got a b n w d s c h = record {
+  stays = record { worker = n; deque = ap (λ (v : Owner). worker_deque v) w; parts = ap (λ (v : Owner). (hand_of v).parts) w; put = ap (λ (v : Owner). (hand_of v).put) w; crew = c };
   done = d;
   short = s;
   taken = λ x. let p = h x in let o : times x (own b).taken ≡ times x (own a).taken = ap (λ (v : Owner). times x (hand_of v).taken) w in omega arith;
 }
 
 -- the owner was at work, and nothing else
-owner_took : (got : List ℕ) (a b : Seat) → worker_deque b.deque ≡ worker_deque a.deque → b.thieves ≡ a.thieves → b.done ≡ a.done → b.short ≡ a.short
+owner_took : (got : List ℕ) (a b : Seat) → b.worker ≡ a.worker → worker_deque b.deque ≡ worker_deque a.deque → b.thieves ≡ a.thieves → b.done ≡ a.done → b.short ≡ a.short
     → own b ≡ hand (own a).parts (own a).put ((own a).taken ++ got) → Took got a b
-owner_took got a b w t d s e = record {
-  stays = record { deque = w; parts = ap (λ (h : Hand). h.parts) e; put = ap (λ (h : Hand). h.put) e; crew = ap (λ (v : Vec Thief Global). crew_of v.items) t };
+owner_took got a b n w t d s e = record {
+  stays = record { worker = n; deque = w; parts = ap (λ (h : Hand). h.parts) e; put = ap (λ (h : Hand). h.put) e; crew = ap (λ (v : Vec Thief Global). crew_of v.items) t };
   done = d;
   short = s;
   taken = λ x.
@@ -77,12 +77,12 @@ owner_took got a b w t d s e = record {
       let c : carried x b.thieves.items ≡ carried x a.thieves.items = ap (λ (v : Vec Thief Global). carried x v.items) t in omega arith;
 }
 
-pub owner_pops : (got : Option ℕ) (a b : Seat) → worker_deque b.deque ≡ worker_deque a.deque → b.thieves ≡ a.thieves → b.done ≡ a.done → b.short ≡ a.short
+pub owner_pops : (got : Option ℕ) (a b : Seat) → b.worker ≡ a.worker → worker_deque b.deque ≡ worker_deque a.deque → b.thieves ≡ a.thieves → b.done ≡ a.done → b.short ≡ a.short
     → MatchOption got ((own b ≡ own a) × Spent (own a)) (λ x. own b ≡ hand (own a).parts (own a).put ((own a).taken ++ x ∷ []))
     → MatchOption got (Took [] a b × Spent (own b)) (λ x. Took (x ∷ []) a b)
-owner_pops None a b w t d s e = (
+owner_pops None a b n w t d s e = (
   record {
-    stays = record { deque = w; parts = ap (λ (h : Hand). h.parts) e.0; put = ap (λ (h : Hand). h.put) e.0; crew = ap (λ (v : Vec Thief Global). crew_of v.items) t };
+    stays = record { worker = n; deque = w; parts = ap (λ (h : Hand). h.parts) e.0; put = ap (λ (h : Hand). h.put) e.0; crew = ap (λ (v : Vec Thief Global). crew_of v.items) t };
     done = d;
     short = s;
     taken = λ x.
@@ -91,7 +91,7 @@ owner_pops None a b w t d s e = (
   },
   subst Spent (sym e.0) e.1,
 )
-owner_pops (Some x) a b w t d s e = owner_took (x ∷ []) a b w t d s e
+owner_pops (Some x) a b n w t d s e = owner_took (x ∷ []) a b n w t d s e
 
 -- a job of one's own, or else of another's
 pub other_took : (got : Option ℕ) (a b c : Seat) → Took [] a b → Spent (own b) → Took (option_to_list got) b c → own c ≡ own b
@@ -118,6 +118,7 @@ grows_idle a b c g t = record {
 pub grows : (job : ℕ) (a b c d : Seat) → Grown a b → Took (job ∷ []) b c → Did job c d → Grown a d
 grows job a b c d g t did = record {
   stays = stays_then a b d g.stays (stays_then b c d t.stays (record {
+    worker = did.worker;
     deque = ap (λ (w : Owner). worker_deque w) did.deque;
     parts = ap (λ (w : Owner). (hand_of w).parts) did.deque;
     put = ap (λ (w : Owner). (hand_of w).put) did.deque;

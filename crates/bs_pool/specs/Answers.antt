@@ -4,6 +4,7 @@
 --
 -- Source: this project's own.
 -- The workers do the jobs in no order; each answer is put in the place of its job.
+-- A caller needs this module alone: the others say what the parts of the pool do.
 use Rattle.std.specs.Prelude.{◌≡◌, ℕ, ◌<◌, List, length, slice_index_or, Vec}
 use Rattle.std.specs.declared.alloc.Global.{Global}
 

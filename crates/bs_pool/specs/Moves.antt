@@ -1,7 +1,7 @@
 -- How a seat changes while its worker is at work, and before and after that.
 --
 --   Both R xs ys     == two lists are as long, and R holds of what stands at each place
---   Stays            == which deque, its parts, what was put into it, and from which deques the thieves take: all as before
+--   Stays            == the worker's number, which deque, its parts, what was put into it, and from which deques the thieves take: all as before
 --   Took got         == the jobs `got` were taken, and none was done
 --   Did job          == one job was done, or there was no memory
 --   Grown            == what was taken was done, each job as often, unless there was no memory
@@ -26,6 +26,7 @@ Both {A} R xs ys = (length ys ≡ length xs) × ((i : ℕ) (d : A) → i < lengt
 
 -- ---- at work
 pub record Stays (old new : Seat) : Type 0 where
+  pub worker : new.worker ≡ old.worker
   pub deque : worker_deque new.deque ≡ worker_deque old.deque
   pub parts : (own new).parts ≡ (own old).parts
   pub put : (own new).put ≡ (own old).put
@@ -38,6 +39,7 @@ pub record Took (got : List ℕ) (old new : Seat) : Type 0 where
   pub taken : (x : ℕ) → taken_at x new ≡ taken_at x old + times x got
 
 pub record Did (job : ℕ) (old new : Seat) : Type 0 where
+  pub worker : new.worker ≡ old.worker
   pub deque : new.deque ≡ old.deque
   pub thieves : new.thieves ≡ old.thieves
   pub done : (new.short ≡ true) ⊎ ((new.short ≡ old.short) × (jobs_at new ≡ jobs_at old ++ job ∷ []))

@@ -13,4 +13,4 @@ pub pop_as-requires-clause-empty : goal.pop_as-requires-clause-empty
 pop_as-requires-clause-empty c = finds _ _
 
 pub returns : goal.returns
-returns c = owner_pops c.pop_as.result c.args.self.now _ c.pop_as.ensures.same.0.0 refl refl refl c.pop_as.ensures.rule
+returns c = owner_pops c.pop_as.result c.args.self.now _ refl c.pop_as.ensures.same.0.0 refl refl refl c.pop_as.ensures.rule
