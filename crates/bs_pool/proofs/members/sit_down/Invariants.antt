@@ -1,0 +1,11 @@
+use Rattle.std.proofs.Common.{◌≡◌, ◌+◌, ◌++◌, map, reverse, vec_len, vec_capacity}
+use Rattle.bs_pool.specs.Seats.{local_of, seat_of}
+use Rattle.bs_pool.proofs.members.sit_down.Given as goal
+
+abbrev pub invariant-loop : goal.invariant-loop
+invariant-loop g l = record {
+  locals : l.locals.items ++ reverse (map local_of l.members.items) ≡ l.initial.locals.items;
+  seats : l.seats.items ++ reverse (map seat_of l.members.items) ≡ l.initial.seats.items;
+  long : (vec_len l.locals + l.counter ≡ vec_len l.initial.locals) × (vec_len l.seats + l.counter ≡ vec_len l.initial.seats) × (vec_len l.members ≡ l.counter);
+  room : (vec_capacity l.locals ≡ vec_capacity l.initial.locals) × (vec_capacity l.seats ≡ vec_capacity l.initial.seats) × (vec_capacity l.members ≡ vec_capacity l.initial.members);
+}

@@ -1,0 +1,5 @@
+pub mod Answers
+pub mod Places
+pub mod Hands
+pub mod Seats
+pub mod Moves
