@@ -1,31 +1,32 @@
 -- Gathered products are those of their factors, and a gathered sum is the written one.
 use mathlib.Core.Bool.{beq}
-use Rattle.std.proofs.Common.{◌≡◌, ℕ, suc, zero, ◌+◌, ◌*◌, ◌/◌, ◌≤◌, ◌<◌, Bool, true, false, not, ℤ, pos, ◌+ℤ◌, ◌*ℤ◌, neg_ℤ, List, [], ◌∷◌, ◌++◌, map, length, get_or, arith, refl, sym, ◌∙◌, ap, ap₂, subst, mul-pos}
+use Rattle.std.proofs.Common.{◌≡◌, ℕ, suc, zero, ◌+◌, ◌*◌, ◌/◌, ◌≤◌, ◌<◌, Bool, true, false, not, ℤ, pos, ◌+ℤ◌, ◌*ℤ◌, neg_ℤ, List, [], ◌∷◌, ◌++◌, map, length, get_or, arith, refl, sym, ◌∙◌, ap, ap₂, subst}
 use Rattle.std.specs.Prelude.{unsigned_abs, replicate, Option, Some, None, IfSome}
 use Rattle.std.specs.List.{fold, swap, AllByRecursion}
 use Rattle.std.specs.List.Sorted.{IsPermutation}
 use Rattle.std.proofs.Math.ListN.{set, get_or-map}
 use Rattle.std.proofs.lemmas.List.{map-set}
 use Rattle.std.proofs.lemmas.List.Edits.{swap_is}
-use Rattle.std.proofs.Math.Nat.{le_trans, mul-le-mul_right, pos_of_dvd_of_pos, mul-div_cancel', mul-div_cancel_left, dvd-mul_left, dvd-mul_right}
+use Rattle.std.proofs.Math.Nat.{mul-le-mul_right, pos_of_dvd_of_pos, mul-div_cancel', mul-div_cancel_left, dvd-mul_right}
 use Rattle.std.proofs.lemmas.List.{map-append, length-map}
-use Rattle.std.proofs.lemmas.List.Sorted.{IsPermutation-refl, IsPermutation-sym, IsPermutation-swap, IsPermutation-trans, IsPermutation-keeps, All-permutation}
+use Rattle.std.proofs.lemmas.List.Sorted.{IsPermutation-refl, IsPermutation-swap, IsPermutation-trans, IsPermutation-keeps, All-permutation}
 use Rattle.std.proofs.lemmas.List.Elements.{All-from_recursion, recursion_from_All}
 use Rattle.std.proofs.lemmas.Int.{ints, unsigned_abs-mul}
 use Rattle.std.proofs.lemmas.Nat.Gcd.{dvd_trans}
 use Prim.Native.Nat.{◌∣◌}
 use Rattle.bs_frac.specs.Gcd.{gcd}
-use Rattle.bs_frac.specs.Fraction.{Fraction, IsReduced, signed}
+use Rattle.bs_frac.specs.Fraction.{Fraction, IsReduced, signed, whole, product_of}
 use Rattle.bs_frac.specs.Checked.{largest}
-use Rattle.bs_frac.specs.Written.{checked, Term, add, subtract, with_term}
-use Rattle.bs_frac.specs.Wholes.{ratio, number, number_term, tops, bottoms, or_one, reach, product_over, top_over, total_top, magnitudes, FactorsFit, TermFits, AllTermsFit}
+use Rattle.bs_frac.specs.Written.{checked, Term, add, subtract, product_all, with_term}
+use Rattle.bs_frac.specs.Wholes.{ratio, number, number_term, tops, bottoms, or_one, reach, product_over, top_over, total_top, magnitudes, FactorsFit, TermFits, AllTermsFit, ProductStays}
 use Rattle.bs_frac.specs.Gathered.{Multiplied, multiplied, both_multiplied, IsProductOf, Total, turned, gathered, term_of, Gathers}
 use Rattle.bs_frac.specs.declared.coef.Coef.{Coef}
 use Rattle.bs_frac.specs.declared.coef.Coef.TheVariants.{Value}
-use Rattle.bs_frac.proofs.GcdLaws.{gcd-left, gcd-right}
+use Rattle.bs_frac.proofs.GcdLaws.{gcd-right}
+use Rattle.bs_frac.proofs.Products.{one_reduced}
 use Rattle.bs_frac.proofs.Reduced.{quotient_pos}
 use Rattle.bs_frac.proofs.Wholes.{scaled_same, lcm_turned}
-use Rattle.bs_frac.proofs.WholeSums.{reduced_is_number, one_number, totals_append, totals_permutation, terms_from, abs_sum}
+use Rattle.bs_frac.proofs.WholeSums.{reduced_is_number, one_number, product_law, totals_append, totals_permutation, terms_from, abs_sum}
 use Rattle.bs_frac.proofs.Sums.{unsigned_abs-signed, signed-times}
 use Rattle.bs_frac.proofs.Ring.{self, nat, plus, minus, times, same}
 
@@ -314,3 +315,26 @@ total_found s n mag d x t negative a b k l m etop eb ek el sign total magnitude 
     emagnitude ∙ ap₂ (λ (i j : ℕ). i + j) (ebefore ∙ ap (λ (i : ℕ). mag * i) ks) (eby ∙ ap₂ (λ (i j : ℕ). i * (j * m)) abs ls) in
     ap₂ (λ (i : ℕ) (j : ℤ). let v : Total = record { over = i; top = j; magnitude = magnitude } in v) over_is top_is
     ∙ ap (λ (i : ℕ). let v : Total = record { over = d * scale; top = signed s n *ℤ pos scale +ℤ turned negative (x.top *ℤ pos (other * m)); magnitude = i } in v) magnitude_is
+
+-- ---- a product of two factors, begun with 1
+pub two_factors : (s : Bool) (n d : ℕ) (x y : Fraction) → record { top = signed s n; bottom = d } ≡ x → n ≤ largest → d ≤ largest → IsReduced x → 0 < y.bottom → ProductStays x y
+    → product_all checked (Value x ∷ number y ∷ []) ≡ number (product_of x y)
+two_factors s n d x y e hn hd r p f =
+    let top : unsigned_abs x.top ≤ largest = subst (λ (z : Fraction). unsigned_abs z.top ≤ largest) e (subst (λ (i : ℕ). i ≤ largest) (sym (unsigned_abs-signed s n)) hn) in
+    let bottom : x.bottom ≤ largest = subst (λ (z : Fraction). z.bottom ≤ largest) e hd in
+    let one : pos 1 *ℤ x.top ≡ x.top = same (times (nat 1) (self x.top)) (self x.top) (omega arith) in
+    let first : ProductStays (whole 1) x = record {
+      top = subst (λ (z : ℤ). unsigned_abs z ≤ largest) (sym one) top;
+      bottom = (let q : 1 * x.bottom ≤ largest = omega arith in q);
+    } in
+    let same_x : product_of (whole 1) x ≡ x = ap₂ (λ (a : ℤ) (b : ℕ). ratio a b) one (omega arith) in
+    ap₂ (λ (a b : Coef). checked.product (checked.product a b) (number y)) (reduced_is_number (whole 1) one_reduced) (reduced_is_number x r)
+    ∙ ap (λ (z : Coef). checked.product z (number y)) (product_law (whole 1) x (omega arith) r.positive first ∙ ap number same_x)
+    ∙ product_law x y r.positive p f
+
+-- ---- both numbers some times as large
+pub widened : (s : Bool) (n d k n' d' : ℕ) → 0 < d → 0 < k → n' ≡ n * k → d' ≡ d * k → number (ratio (signed s n') d') ≡ number (ratio (signed s n) d)
+widened s n d k n' d' p q en ed =
+    ap₂ (λ (i j : ℕ). number (ratio (signed s i) j)) en ed
+    ∙ ap (λ (z : ℤ). number (ratio z (d * k))) (sym (signed-times s n k))
+    ∙ sym (one_number (ratio (signed s n) d) (ratio (signed s n *ℤ pos k) (d * k)) (scaled_same (signed s n) d k p q))

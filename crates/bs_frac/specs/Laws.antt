@@ -16,7 +16,7 @@
 --   GcdLaw                   == the gcd divides both numbers, and each common divisor divides it
 --
 -- Source: Knuth (1998), The Art of Computer Programming 2, 4.5.1 and 4.5.2.
-use Rattle.std.specs.Prelude.{◌≡◌, ◌<◌, ◌*◌, ◌/◌, ◌↔◌, ◌⊎◌, ℕ, ℤ, pos, ◌+ℤ◌, ◌*ℤ◌, unsigned_abs, Bool, Option, Some, IsNone}
+use Rattle.std.specs.Prelude.{◌≡◌, ◌<◌, ◌*◌, ◌/◌, ◌↔◌, ◌⊎◌, ℕ, pos, ◌+ℤ◌, ◌*ℤ◌, unsigned_abs, Bool, Option, Some, IsNone}
 use Rattle.std.specs.Int.{IsGcd}
 use Rattle.bs_frac.specs.Gcd.{gcd}
 use Rattle.bs_frac.specs.declared.frac.TheConstants.{M}

@@ -1,5 +1,5 @@
 use mathlib.Core.Bool.{beq}
-use Rattle.std.proofs.Common.{◌≡◌, ℕ, ◌+◌, ◌*◌, ◌≤◌, ◌<◌, Bool, true, false, not, ◌++◌, ◌+ℤ◌, arith, refl, sym, ◌∙◌, ap, subst, mul-pos}
+use Rattle.std.proofs.Common.{◌≡◌, ℕ, ◌+◌, ◌*◌, ◌≤◌, ◌<◌, true, false, not, ◌++◌, ◌+ℤ◌, arith, refl, sym, ◌∙◌, ap, subst, mul-pos}
 use Rattle.std.specs.Prelude.{unsigned_abs, replicate}
 use Rattle.std.proofs.Math.Nat.{le_trans}
 use Rattle.bs_frac.specs.Gcd.{gcd}
