@@ -19,23 +19,30 @@ pub fn ones() -> Stages
     ensures places { length result ≡ MAX_STAGES }
 {
     [
-        Running::whole(1),
-        Running::whole(1),
-        Running::whole(1),
-        Running::whole(1),
-        Running::whole(1),
-        Running::whole(1),
-        Running::whole(1),
-        Running::whole(1),
-        Running::whole(1),
-        Running::whole(1),
-        Running::whole(1),
-        Running::whole(1),
-        Running::whole(1),
-        Running::whole(1),
-        Running::whole(1),
-        Running::whole(1),
+        one(),
+        one(),
+        one(),
+        one(),
+        one(),
+        one(),
+        one(),
+        one(),
+        one(),
+        one(),
+        one(),
+        one(),
+        one(),
+        one(),
+        one(),
+        one(),
     ]
+}
+
+/// The empty product.
+fn one() -> Running
+    ensures { result ≡ checked.of (whole 1) }
+{
+    Running::whole(1)
 }
 
 /// The sum over the stages of a child, as a node at stage `row` sees it.
