@@ -4,10 +4,8 @@
 --   IsWithin x               == neither magnitude of x exceeds it
 --   checked_sum x y          == with g = gcd(b, d), p = a(d/g), q = c(b/g), s = p + q, h = gcd(s, g):
 --                               (s/h) / ((b/g)(d/h)); None exactly where |p|, |q|, |s| or the denominator exceeds M
---   SumFits x y              == none of those four does
 --   checked_product x y      == with g1 = gcd(a, d), g2 = gcd(c, b): (a/g1)(c/g2) / ((b/g2)(d/g1));
 --                               None exactly where one of the two products exceeds M
---   ProductFits x y          == neither of those two does
 --   checked_difference x y   == the checked sum with the second numerator negated
 --   checked_quotient x y     == the checked product with the reciprocal
 --   checked_fraction s n d   == the reduced fraction of a sign and two magnitudes; None where a reduced magnitude exceeds M
@@ -52,13 +50,6 @@ sum_common x y = gcd (unsigned_abs (sum_top x y)) (sum_gcd x y)
 unfoldable pub sum_bottom : Fraction → Fraction → ℕ
 sum_bottom x y = x.bottom / sum_gcd x y * (y.bottom / sum_common x y)
 
--- none of the numbers p, q, s and the result's denominator exceeds the largest
-pub record SumFits (x y : Fraction) : Type 0 where
-  pub left : unsigned_abs (sum_left x y) ≤ largest
-  pub right : unsigned_abs (sum_right x y) ≤ largest
-  pub top : unsigned_abs (sum_top x y) ≤ largest
-  pub bottom : sum_bottom x y ≤ largest
-
 abbrev pub sum_reduced : Fraction → Fraction → Fraction
 sum_reduced x y = record { top = over (sum_top x y) (sum_common x y); bottom = sum_bottom x y }
 
@@ -80,11 +71,6 @@ product_top x y = over x.top (cross_gcd x y) *ℤ over y.top (cross_gcd y x)
 
 unfoldable pub product_bottom : Fraction → Fraction → ℕ
 product_bottom x y = x.bottom / cross_gcd y x * (y.bottom / cross_gcd x y)
-
--- neither of the result's two numbers exceeds the largest
-pub record ProductFits (x y : Fraction) : Type 0 where
-  pub top : unsigned_abs (product_top x y) ≤ largest
-  pub bottom : product_bottom x y ≤ largest
 
 abbrev pub product_reduced : Fraction → Fraction → Fraction
 product_reduced x y = record { top = product_top x y; bottom = product_bottom x y }

@@ -12,7 +12,6 @@ fn parts(word: &str) -> Option<(bool, u128, u128)> {
 
 #[test]
 fn reads_fractions_and_nothing_else(rt: HostRuntime) {
-    let largest = 170141183460469231731687303715884105727;
     for (word, want) in [
         ("0", Some((false, 0, 1))),
         ("-0", Some((false, 0, 1))),
@@ -22,11 +21,11 @@ fn reads_fractions_and_nothing_else(rt: HostRuntime) {
         ("-10/5", Some((true, 2, 1))),
         (
             "170141183460469231731687303715884105727",
-            Some((false, largest, 1)),
+            Some((false, M, 1)),
         ),
         (
             "-1/170141183460469231731687303715884105727",
-            Some((true, 1, largest)),
+            Some((true, 1, M)),
         ),
         ("170141183460469231731687303715884105728", None),
         ("170141183460469231731687303715884105728/2", None),
@@ -123,4 +122,30 @@ fn overflow_stays(rt: HostRuntime) {
     assert!(rt; Coef::Overflow.times(&value("0")) == Coef::Overflow);
     assert!(rt; !half.is_zero());
     assert!(rt; Coef::Overflow.quotient(&half) == Coef::Overflow);
+}
+
+/// The numerators of the term pass M at its third factor, where its reduced product is 1; Python's `fractions` finds the sum.
+#[test]
+fn changes_to_the_written_way_within_a_term(rt: HostRuntime) {
+    let mut sum = Acc::start();
+    sum.add_term(&[value("1/2")]);
+    sum.add_term(&[
+        value("18446744073709551616/3"),
+        value("3/18446744073709551616"),
+        value("18446744073709551616/5"),
+        value("5/7"),
+    ]);
+    assert!(rt; sum.finish() == value("36893488147419103239/14"));
+}
+
+/// A product that is 0 stays so whatever follows; one that passed M does not come back.
+#[test]
+fn zero_stands_before_or_behind_too_large_factors(rt: HostRuntime) {
+    let small = value("1/170141183460469231731687303715884105727");
+    let mut before = Acc::start();
+    before.add_term(&[value("0"), small, small]);
+    assert!(rt; before.finish() == value("0"));
+    let mut behind = Acc::start();
+    behind.add_term(&[small, small, value("0")]);
+    assert!(rt; behind.finish() == Coef::Overflow);
 }

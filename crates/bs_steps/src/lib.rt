@@ -8,7 +8,7 @@ ghost use Rattle.std.specs.Prelude.{◌≡◌, ◌+◌, ◌<◌};
 use std::marker::Model;
 use std::sync::ledger::{Blank, Book, Ledger, Share};
 
-/// How many steps were taken. Only `tick` changes it.
+/// How many steps were taken. Only `tick` and `tick_many` change it.
 #[derive(Drop)]
 pub struct Steps<L: Ledger> {
     book: Book<L>,
@@ -41,6 +41,13 @@ impl<L: Ledger> Steps<L> {
     pub fn tick(&mut self)
         ensures { self.new ≡ self.old + 1 }
     {
-        self.book.add(&mut self.share, 1);
+        self.tick_many(1);
+    }
+
+    /// So many more steps.
+    pub fn tick_many(&mut self, count: u64)
+        ensures { self.new ≡ self.old + count }
+    {
+        self.book.add(&mut self.share, count);
     }
 }

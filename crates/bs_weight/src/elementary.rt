@@ -10,8 +10,8 @@ ghost use Rattle.bs_tableau.specs.Table.{IsBegun};
 ghost use Rattle.bs_tableau.specs.WrittenWeight.{root_sum, written_weight};
 ghost use Rattle.bs_weight.specs.Walk.{stage_in};
 
-use crate::walk::{Stages, add_product, multiply_children, ones};
-use bs_frac::{Acc, Coef};
+use crate::walk::{Stages, multiply_children, ones};
+use bs_frac::{Coef, Running};
 use bs_tableau::Tableau;
 use bs_tree::Code;
 
@@ -34,9 +34,9 @@ pub(crate) fn root_sum(table: &Tableau, colour: usize, values: &Stages) -> Coef
     ensures value { result ≡ root_sum checked table.now colour (stage_in values.now) }
     ensures begun { IsBegun table.now }
 {
-    let mut sum = Acc::start();
+    let mut sum = Running::whole(0);
     'stages: for stage in 0..table.stages() {
-        add_product(&mut sum, table.b(colour, stage), values[stage]);
+        sum.add_product(&table.b(colour, stage), &values[stage]);
     }
-    sum.finish()
+    sum.value()
 }

@@ -24,7 +24,7 @@ const SLOTS: usize = 4096;
 const NOWHERE: u16 = u16::MAX;
 
 /// The edge sums of the tree of a code, for each stage of its parent.
-#[derive(Clone, Copy)]
+#[derive(Drop)]
 pub(crate) struct Entry {
     code: Code,
     sums: Stages,
@@ -93,11 +93,10 @@ impl Memory {
     }
 
     /// Remembers an entry, unless memory is wanted.
-    fn keep(&mut self, entry: &Entry)
-        requires { AreEdgeSums self.old entry.now.code entry.now.sums }
+    fn keep(&mut self, entry: Entry)
+        requires { AreEdgeSums self.old entry.code entry.sums }
         ensures { self.new ≡ self.old }
     {
-        let entry = *entry;
         let slot = slot_of(&entry.code);
         let place = self.place(slot);
         let count = self.entries.len();
@@ -118,21 +117,19 @@ impl Memory {
         }
     }
 
-    /// Works the edge sums of a tree out from its stage values, and remembers them.
-    fn work_out(&mut self, code: &Code, values: &Stages) -> Entry
-        requires colours { All (λ pair. pair.1 < self.old.colours) code.now }
-        requires values { AreStageValues self.old code.now values.now }
-        ensures sums { AreEdgeSums self.old code.now result.sums }
-        ensures same { self.new ≡ self.old }
+    /// Works the edge sums of a tree out from its stage values.
+    fn work_out(&self, code: &Code, values: &Stages) -> Entry
+        requires colours { All (λ pair. pair.1 < self.now.colours) code.now }
+        requires values { AreStageValues self.now code.now values.now }
+        ensures code { result.code ≡ code.now }
+        ensures sums { AreEdgeSums self.now code.now result.sums }
     {
         let own = *code;
         let colour = usize::from(code.pairs()[0].1);
-        let entry = Entry {
+        Entry {
             code: own,
             sums: edge_sums(&self.table, colour, values),
-        };
-        self.keep(&entry);
-        entry
+        }
     }
 
     /// The stage values of the tree of a code: at each stage the product of its children's edge sums.
@@ -151,6 +148,7 @@ impl Memory {
                     let below = self.stage_values(&child);
                     let entry = self.work_out(&child, &below);
                     multiply(stages, &mut values, &entry.sums);
+                    self.keep(entry);
                 }
             }
         }

@@ -6,38 +6,56 @@ ghost use Rattle.bs_frac.specs.Written.{checked, product_all};
 ghost use Rattle.bs_tableau.specs.WrittenWeight.{edge_sum};
 ghost use Rattle.bs_weight.specs.Walk.{stage_in, MultipliesBy, MultipliesTrees};
 
-use bs_frac::{Acc, Coef, Frac};
+use bs_frac::{Running, share_denominator};
 use bs_tableau::{MAX_STAGES, Tableau};
 
-/// One value for each stage; those past the tableau's stages are never read.
-pub type Stages = [Coef; MAX_STAGES];
+/// One value for each stage; those past the tableau's stages are never read. They are kept over one denominator where that is
+/// possible.
+pub type Stages = [Running; MAX_STAGES];
 
 /// The empty products.
 pub fn ones() -> Stages
     ensures value { (i : ℕ) → i < MAX_STAGES → stage_in result i ≡ checked.of (whole 1) }
     ensures places { length result ≡ MAX_STAGES }
 {
-    [Coef::Value(Frac::whole(1)); MAX_STAGES]
+    [
+        one(),
+        one(),
+        one(),
+        one(),
+        one(),
+        one(),
+        one(),
+        one(),
+        one(),
+        one(),
+        one(),
+        one(),
+        one(),
+        one(),
+        one(),
+        one(),
+    ]
 }
 
-/// Adds the product of an entry and a value.
-pub fn add_product(sum: &mut Acc, entry: Frac, value: Coef)
-    ensures { sum.new ≡ checked.sum sum.old (product_all checked (checked.of entry ∷ value ∷ [])) }
+/// The empty product.
+fn one() -> Running
+    ensures { result ≡ checked.of (whole 1) }
 {
-    sum.add_term(&[Coef::Value(entry), value]);
+    Running::whole(1)
 }
 
 /// The sum over the stages of a child, as a node at stage `row` sees it.
-fn edge_sum(table: &Tableau, colour: usize, row: usize, child: &Stages) -> Coef
+fn edge_sum(table: &Tableau, colour: usize, row: usize, child: &Stages) -> Running
     requires colour { colour < table.now.colours }
     requires row { row < table.now.stages }
     ensures { result ≡ edge_sum checked table.now colour row (stage_in child.now) }
 {
-    let mut sum = Acc::start();
+    let mut sum = Running::whole(0);
     'columns: for column in 0..table.stages() {
-        add_product(&mut sum, table.a(colour, row, column), child[column]);
+        sum.add_product(&table.a(colour, row, column), &child[column]);
     }
-    sum.finish()
+    sum
 }
 
 /// The sums over the stages of a child of this colour, for each stage of its parent.
@@ -50,6 +68,7 @@ pub fn edge_sums(table: &Tableau, colour: usize, child: &Stages) -> Stages
     'rows: for row in 0..table.stages() {
         sums[row] = edge_sum(table, colour, row, child);
     }
+    share_denominator(&mut sums);
     sums
 }
 
@@ -59,7 +78,7 @@ pub fn multiply(stages: usize, values: &mut Stages, factors: &Stages)
     ensures { MultipliesBy stages values.old values.new (stage_in factors.now) }
 {
     'stages: for stage in 0..stages {
-        values[stage] = values[stage].times(&factors[stage]);
+        values[stage].multiply_by(&factors[stage]);
     }
 }
 

@@ -12,6 +12,6 @@ stages-preserved c =
     let values = c.args.values.now in
     let i = c.stages.stage in
     let lt : i < length values = omega (arith, c.stages-stage-end.ensures.value, c.stages-stage-end.ensures.whole.begun.few_stages) in
-    sum_below-product (λ i. product_all checked (checked.of (weight_entry c.args.table.now c.args.colour i) ∷ stage_in values i ∷ [])) i c.stages.sum c.add_product.new.sum
+    sum_below-product (λ i. product_all checked (checked.of (weight_entry c.args.table.now c.args.colour i) ∷ stage_in values i ∷ [])) i c.stages.sum c.add_product.new.self
     c.b.result (weight_entry c.args.table.now c.args.colour i) (get_or values i c.index-values-stage.result) (stage_in values i)
     c.add_product.ensures c.b.ensures (get_or_default values i c.index-values-stage.result Overflow lt) refl c.stages.invariant

@@ -12,6 +12,6 @@ columns-preserved c =
     let child = c.args.child.now in
     let j = c.columns.column in
     let lt : j < length child = omega (arith, c.stages-column-end.ensures.value, c.stages-column-end.ensures.whole.begun.few_stages) in
-    sum_below-product (λ j. product_all checked (checked.of (matrix_entry c.args.table.now c.args.colour c.args.row j) ∷ stage_in child j ∷ [])) j c.columns.sum c.add_product.new.sum
+    sum_below-product (λ j. product_all checked (checked.of (matrix_entry c.args.table.now c.args.colour c.args.row j) ∷ stage_in child j ∷ [])) j c.columns.sum c.add_product.new.self
     c.a.result (matrix_entry c.args.table.now c.args.colour c.args.row j) (get_or child j c.index-child-column.result) (stage_in child j)
     c.add_product.ensures c.a.ensures (get_or_default child j c.index-child-column.result Overflow lt) refl c.columns.invariant

@@ -1,9 +1,8 @@
-use Rattle.std.proofs.Common.{◌≡◌, ◌<◌, ◌+◌, ℕ, List, ◌∙◌, refl, ap, sym, subst, arith}
+use Rattle.std.proofs.Common.{◌≡◌, ◌<◌, ◌+◌, ℕ, List, ◌∙◌, refl, ap, arith}
 use Rattle.bs_frac.specs.Written.{checked}
 use Rattle.bs_frac.specs.declared.coef.Coef.{Coef}
 use Rattle.bs_tree.specs.Code.{tree_of}
 use Rattle.bs_tableau.specs.Table.{Table}
-use Rattle.bs_tableau.specs.declared.TheConstants.{MAX_STAGES}
 use Rattle.bs_weight.specs.Walk.{stage_in}
 use Rattle.bs_weight.specs.Remembered.{AreEdgeSums}
 use Rattle.bs_weight.proofs.Children.{of_first, one_more, all_children}
@@ -25,7 +24,7 @@ children-preserved t c =
     let kept : c.match-recall.self ≡ table =
     elim c.match-recall.branch [
       | in-Some w ↦ w.self-is ∙ before
-      | in-None w ↦ w.self-is ∙ w.work_out-entry.ensures.same ∙ w.stage_values-below.ensures.same ∙ before
+      | in-None w ↦ w.self-is ∙ w.keep.ensures ∙ w.stage_values-below.ensures.same ∙ before
     ] in
     let stages = c.stages-stages.ensures.value ∙ ap (λ (w : Table). w.stages) c.self.view_is in
     let onto : (values new sums : List Coef) → values ≡ new → AreEdgeSums table child sums

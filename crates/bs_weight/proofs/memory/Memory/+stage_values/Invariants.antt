@@ -1,6 +1,5 @@
 use Rattle.std.proofs.Common.{◌≡◌, ℕ, ◌<◌, length}
 use Rattle.bs_tree.specs.Code.{tree_of}
-use Rattle.bs_tableau.specs.declared.TheConstants.{MAX_STAGES}
 use Rattle.bs_weight.specs.Walk.{stage_in}
 use Rattle.bs_weight.proofs.Children.{of_first}
 use Rattle.bs_weight.proofs.memory.Memory.+stage_values.Given as goal
