@@ -1,12 +1,10 @@
 -- The number that a getter reads is the number of the text.
-use Rattle.std.proofs.Common.{◌≡◌, ◌<◌, ◌≤◌, ℕ, List, Option, Some, None, Result, Ok, Err, ap, refl, sym, ◌∙◌, arith, IfSome, subst}
+use Rattle.std.proofs.Common.{◌≡◌, ◌<◌, ◌≤◌, ℕ, List, Option, Some, None, Result, Ok, Err, ap, refl, sym, ◌∙◌, arith, IfSome, subst, [], ◌∷◌, true, false, inl, inr, codes, length}
 use Rattle.std.specs.Prelude.{option_map}
 use Rattle.std.specs.Str.Parse.{ParsesUnsigned}
 use Rattle.clap.specs.Matches.{ReadsOne}
 use Rattle.clap.specs.Values.{IsUnsignedIn}
-use Rattle.std.proofs.Common.{[], ◌∷◌, true, false, inl, inr, codes}
 use Rattle.std.specs.List.{slice_index_or}
-use Rattle.std.proofs.Common.{length}
 use Rattle.std.specs.Str.{bytes_eq}
 use Rattle.std.proofs.lemmas.Slice.Eq.{bytes_eq-Decides}
 use Rattle.clap.specs.Facts.{args_of}
