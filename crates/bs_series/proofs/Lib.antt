@@ -15,3 +15,4 @@ pub mod Solvable
 pub mod Nodes
 pub mod KeyLaws
 pub mod Colours
+pub mod Longer

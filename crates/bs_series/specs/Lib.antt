@@ -8,6 +8,7 @@ pub mod Laws
 pub mod Keys
 pub mod Accepted
 pub mod Expressions
+pub mod Fronts
 pub use Rattle.bs_frac.specs.Fraction
 pub use Rattle.bs_frac.specs.Written
 pub use Rattle.bs_tree.specs.Tree

@@ -2,6 +2,7 @@
 #![tactic(auto)]
 
 mod book;
+mod fronts;
 mod key;
 mod kind;
 mod laws;
@@ -11,6 +12,7 @@ mod make;
 mod tests;
 
 pub use book::Book;
+pub use fronts::written_values_need_a_front;
 pub use kind::{Kind, SeriesFault, SeriesId};
 pub use laws::{
     adjoint_is_the_signed_inverse, inverse_solves_its_equation, keys_decide,

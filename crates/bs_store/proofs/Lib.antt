@@ -22,3 +22,7 @@ pub mod Readers
 pub mod Endings
 pub mod Makes
 pub mod Agreeing
+pub mod Events
+pub mod TreeNames
+pub mod Numbers
+pub mod Keepings

@@ -93,7 +93,7 @@ list_same k hs (x ∷ xs) one e = by_test k x.number (λ b. 1 ≤ (if b then 1 e
     one
 
 -- a view changes, and the state with it
-pub turned : (n m id s : ℕ) (T : Table → Table) (v : View) (hands hands' : List Hand) (views : List View) (kept : Kept n m views) → get_elem? views id ≡ some v → 1 ≤ tables_at s v.tables
+unfoldable pub turned : (n m id s : ℕ) (T : Table → Table) (v : View) (hands hands' : List Hand) (views : List View) (kept : Kept n m views) → get_elem? views id ≡ some v → 1 ≤ tables_at s v.tables
     → Each (HandAt hands') hands → ((j : ℕ) (u : View) → j ≢ id → get_elem? views j ≡ some u → Each (HandAt hands') u.hands) → ((k : ℕ) → hands_at k hands ≡ hands_at k v.hands) → length hands' ≡ length kept.hands
     → Good n (at_place s T kept.tables) hands'
     → Kept n m (set views id (view (map (on_numbered s T) v.tables) hands))

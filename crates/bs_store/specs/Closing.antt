@@ -8,11 +8,14 @@
 --   wanted ls            == the codes of the pairs of all lists, and those of all their subtrees
 --   pass_lists ps        == the lists of the passes; all_gains ps: their gains, added up
 --   all_entries ts       == how many entries the tables of a view have
+--   numbers_of ps        == the numbers of the passes
 --   AllNumbers m ps      == each number below m is that of one pass
+--   NewPassesAreAll      == the passes of a new store are of it, and have all numbers
+--   NumbersDecide        == whether passes have all numbers is a matter of their numbers alone
 --
 -- Source: this project's own.
 -- Names and codes decide each other, so different codes are counted for different names.
-use Rattle.std.specs.Prelude.{◌≡◌, ℕ, zero, suc, ◌+◌, ◌<◌, ◌==◌, List, [], ◌∷◌, ◌++◌, length, if◌then◌else◌}
+use Rattle.std.specs.Prelude.{◌≡◌, ℕ, zero, suc, ◌+◌, ◌<◌, ◌==◌, List, [], ◌∷◌, ◌++◌, length, if◌then◌else◌, All}
 use Rattle.atomic_table.specs.Seated.{TableId}
 use Rattle.bs_tree.specs.declared.TheConstants.{MAX_NODES}
 use Rattle.bs_core.specs.Codes.{Code, children, same}
@@ -21,7 +24,7 @@ use Rattle.bs_core.specs.declared.table.Entry.{Entry}
 use Rattle.bs_core.specs.declared.table.Table.{Table}
 use Rattle.bs_store.specs.declared.view.Numbered.{Numbered}
 use Rattle.bs_store.specs.declared.view.Hand.{Hand}
-use Rattle.bs_store.specs.Seats.{OfPass, hand}
+use Rattle.bs_store.specs.Seats.{OfPass, hand, NewPasses}
 
 abbrev pub codes_in : List Entry → List Code
 codes_in [] = []
@@ -75,11 +78,21 @@ numbered k (p ∷ ps) = (if k == p.number then 1 else 0) + numbered k ps
 abbrev pub AllNumbers : ℕ → List OfPass → Type 0
 AllNumbers m ps = (k : ℕ) → k < m → numbered k ps ≡ 1
 
+abbrev pub numbers_of : List OfPass → List ℕ
+numbers_of [] = []
+numbers_of (p ∷ ps) = p.number ∷ numbers_of ps
+
 abbrev pub pass_hand : OfPass → Hand
 pass_hand p = hand p.number p.held p.gains
 
 abbrev pub IsOf : TableId → OfPass → Type 0
 IsOf t p = p.store ≡ t
+
+abbrev pub NewPassesAreAll : Type 0
+NewPassesAreAll = (t : TableId) (ps : List OfPass) → NewPasses t ps → All (IsOf t) ps × AllNumbers (length ps) ps
+
+abbrev pub NumbersDecide : Type 0
+NumbersDecide = (m : ℕ) (ps qs : List OfPass) → numbers_of qs ≡ numbers_of ps → AllNumbers m ps → AllNumbers m qs
 
 -- ---- the tables
 abbrev pub all_entries : List Numbered → ℕ

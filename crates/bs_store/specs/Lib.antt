@@ -4,3 +4,5 @@ pub mod Closing
 pub mod Walks
 pub mod Reading
 pub mod Laws
+pub mod Events
+pub mod Trees

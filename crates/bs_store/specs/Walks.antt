@@ -6,6 +6,7 @@
 --   More p old new     == so, but for one pair p more
 --   Mores ps old new   == so, but for the pairs ps more, each as often as it stands there
 --   Within ps l        == the list has the pairs ps, each as often
+--   Keeps xs l         == the list has a pair for each of the names xs, each as often
 --   Sound l            == in a list each name has one code and each code one name, and each code is a code
 --   Released r x l l'  == one release of a name: the first such pair is gone, and the links of an entry that left have come
 --   Interns c x b l l' == one intern of a node whose children are held: they are gone where the entry is new, and the pair has come
@@ -50,6 +51,9 @@ Mores ps old new = (x : Name) (c : Code) → often x c new ≡ often x c old + o
 
 abbrev pub Within : List Held → List Held → Type 0
 Within ps l = (x : Name) (c : Code) → often x c ps ≤ often x c l
+
+abbrev pub Keeps : List Name → List Held → Type 0
+Keeps xs l = (cs : List Code) × (length cs ≡ length xs) × Within (linked xs cs) l
 
 pub record Sound (l : List Held) : Type 0 where
   pub one_code : Each (λ p. Each (λ q. p.name ≡ q.name → p.code ≡ q.code) l) l

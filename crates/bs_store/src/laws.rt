@@ -4,6 +4,8 @@ ghost use Rattle.bs_core.specs.Codes.{children, stripe_of};
 ghost use Rattle.bs_core.specs.Keys.{key_of};
 ghost use Rattle.bs_core.specs.Machine.{codes, times, code_at, freed, needs, HasAll};
 ghost use Rattle.bs_core.specs.declared.event.Event.TheVariants.{Intern, Hold, Release, Give};
+ghost use Rattle.bs_store.specs.Closing.{NewPassesAreAll, NumbersDecide};
+ghost use Rattle.bs_store.specs.Events.{ChangesAreEvents};
 ghost use Rattle.bs_store.specs.Laws.{ViewsAgreeOnNames};
 ghost use Rattle.bs_store.specs.Rule.{hands_at, list_in, path_in};
 ghost use Rattle.bs_store.specs.Seats.{room_after, Leaves};
@@ -128,4 +130,15 @@ pub fn change_give<N: StoreName>(
 /// Wherever the rule holds of all views, each view agrees on names.
 pub fn a_view_agrees_on_names()
     ensures { ViewsAgreeOnNames }
+{}
+
+/// The change of a view by an event is that event of the machine, from a state that all views fit to another one.
+pub fn changes_are_events()
+    ensures { ChangesAreEvents }
+{}
+
+/// The passes of a new store meet what its closing asks for, and so do passes that were dealt out and came home.
+pub fn passes_have_all_numbers()
+    ensures new { NewPassesAreAll }
+    ensures home { NumbersDecide }
 {}

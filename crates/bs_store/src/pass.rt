@@ -1,6 +1,7 @@
 //! A pass: what one thread holds of a store.
 ghost use Rattle.std.specs.Prelude.{◌≡◌, [], ◌∷◌};
 ghost use Rattle.bs_store.specs.Seats.{Agree, IsPass, alone, hand, hand_of};
+ghost use Rattle.bs_store.specs.Trees.{NamesDecideTrees};
 ghost use Rattle.bs_store.specs.Walks.{Sound};
 
 use crate::view::View;
@@ -40,9 +41,11 @@ impl Pass {
         let _badge = &self.badge;
     }
 
-    /// What it holds is sound: a name has one code, a code has one name, and each code is one.
+    /// What it holds is sound: a name has one code, a code has one name, and each code is one. So two names are equal
+    /// exactly where their trees are isomorphic.
     pub fn known(&self)
-        ensures { Sound self.now.held }
+        ensures sound { Sound self.now.held }
+        ensures trees { NamesDecideTrees self.now.held self.now.held }
     {
         let _badge = &self.badge;
     }

@@ -4,6 +4,7 @@ ghost use Rattle.bs_core.specs.Codes.{children, stripe_of};
 ghost use Rattle.bs_core.specs.Keys.{key_of};
 ghost use Rattle.bs_core.specs.Machine.{times, code_at, without, pair, HasAll};
 ghost use Rattle.bs_store.specs.Seats.{AgreeBoth};
+ghost use Rattle.bs_store.specs.Trees.{NamesDecideTrees};
 ghost use Rattle.bs_store.specs.Walks.{SamePass, Released, Interns};
 
 use crate::lent::{give_in, hold_in, intern_in, release_in};
@@ -40,6 +41,13 @@ impl<N: StoreName> Model for Store<N> {
 }
 
 impl<N: StoreName> Store<N> {
+    /// Nothing. Its table is that of its name.
+    pub fn named(&self)
+        ensures { self.now.table ≡ N.table }
+    {
+        let _board = &self.board;
+    }
+
     /// Interns one node, whose children the pass holds under the names of the key.
     pub(crate) fn intern_node<R: Wait>(
         &self,
@@ -129,12 +137,16 @@ impl<N: StoreName> Store<N> {
         unreachable!()
     }
 
-    /// Afterwards a name of the one and a name of the other are equal exactly where their trees are. Takes no memory.
+    /// Afterwards a name of the one and a name of the other are equal exactly where their trees are isomorphic. Takes no
+    /// memory.
     pub fn meet(&self, a: &mut Pass, b: &mut Pass)
         requires { (a.old.store ≡ self.now.table) × (b.old.store ≡ self.now.table) }
         ensures same { (a.new ≡ a.old) × (b.new ≡ b.old) }
-        ensures agree { AgreeBoth a.old.held b.old.held }
+        ensures codes { AgreeBoth a.old.held b.old.held }
+        ensures trees { NamesDecideTrees a.old.held b.old.held }
     {
+        a.known();
+        b.known();
         meet_at(&self.board, a, b);
     }
 }

@@ -18,7 +18,7 @@ pub(crate) struct Holder {
 
 impl Model for Holder {
     ghost use Rattle.bs_store.specs.Seats.{OfPass};
-    ghost use Rattle.bs_store_rows.specs.Holding.{Keeps};
+    ghost use Rattle.bs_store.specs.Walks.{Keeps};
 
     ghost Value = { OfPass };
 

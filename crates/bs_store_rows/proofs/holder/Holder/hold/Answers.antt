@@ -2,9 +2,8 @@ use Rattle.std.proofs.Common.{List, sym, subst}
 use Rattle.bs_core.specs.Machine.{code_at, pair}
 use Rattle.bs_core.specs.declared.name.Name.{Name}
 use Rattle.bs_core.specs.declared.table.Held.{Held}
-use Rattle.bs_store.specs.Walks.{More}
-use Rattle.bs_store_rows.specs.Holding.{Keeps}
-use Rattle.bs_store_rows.proofs.Holds.{keeps_push, keeps_turned, front_held, more_last}
+use Rattle.bs_store.specs.Walks.{Keeps, More}
+use Rattle.bs_store.proofs.Keepings.{keeps_push, keeps_turned, front_held, more_last}
 use Rattle.bs_store_rows.proofs.holder.Holder.hold.Goals as goal
 
 pub hold-requires-clause-held : goal.hold-requires-clause-held

@@ -1,7 +1,7 @@
 use Rattle.std.proofs.Common.{List, sym, subst}
 use Rattle.bs_core.specs.declared.name.Name.{Name}
-use Rattle.bs_store_rows.specs.Holding.{Keeps}
-use Rattle.bs_store_rows.proofs.Holds.{keeps_push}
+use Rattle.bs_store.specs.Walks.{Keeps}
+use Rattle.bs_store.proofs.Keepings.{keeps_push}
 use Rattle.bs_store_rows.proofs.holder.Holder.intern.Goals as goal
 
 pub invariant_of-self-2 : goal.invariant_of-self-2

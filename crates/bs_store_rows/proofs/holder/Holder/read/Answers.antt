@@ -1,8 +1,8 @@
 use Rattle.std.proofs.Common.{List, [], ◌∷◌, ◌++◌, sym, subst}
 use Rattle.bs_core.specs.declared.name.Name.{Name}
 use Rattle.bs_store.specs.Seats.{OfPass}
-use Rattle.bs_store_rows.specs.Holding.{Keeps}
-use Rattle.bs_store_rows.proofs.Holds.{keeps_turned, front_held}
+use Rattle.bs_store.specs.Walks.{Keeps}
+use Rattle.bs_store.proofs.Keepings.{keeps_turned, front_held}
 use Rattle.bs_store_rows.proofs.holder.Holder.read.Goals as goal
 
 pub read-code-requires-clause-held : goal.read-code-requires-clause-held
