@@ -138,14 +138,18 @@ fn changes_to_the_written_way_within_a_term(rt: HostRuntime) {
     assert!(rt; sum.finish() == value("36893488147419103239/14"));
 }
 
+/// The least positive number.
+fn least() -> Coef {
+    value("1/170141183460469231731687303715884105727")
+}
+
 /// A product that is 0 stays so whatever follows; one that passed M does not come back.
 #[test]
 fn zero_stands_before_or_behind_too_large_factors(rt: HostRuntime) {
-    let small = value("1/170141183460469231731687303715884105727");
     let mut before = Acc::start();
-    before.add_term(&[value("0"), small, small]);
+    before.add_term(&[value("0"), least(), least()]);
     assert!(rt; before.finish() == value("0"));
     let mut behind = Acc::start();
-    behind.add_term(&[small, small, value("0")]);
+    behind.add_term(&[least(), least(), value("0")]);
     assert!(rt; behind.finish() == Coef::Overflow);
 }
