@@ -16,3 +16,4 @@ mod Walked
 mod OrderTold
 pub mod Counting
 pub mod Needed
+mod Interned

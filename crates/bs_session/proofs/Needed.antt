@@ -1,5 +1,5 @@
 -- What a session needs: that its commands' parts are parts of the whole, and the trees of a command those that its work wants.
-use Rattle.std.proofs.Common.{◌≡◌, ℕ, suc, ◌<◌, List, [], ◌∷◌, ◌++◌, length, drop, flat_map, Option, Some, None, Result, Ok, Err, refl, sym, ◌∙◌, ap, subst, inl, inr, add-one}
+use Rattle.std.proofs.Common.{◌≡◌, ℕ, suc, ◌+◌, ◌<◌, sum_by, arith, List, [], ◌∷◌, ◌++◌, length, drop, flat_map, Option, Some, None, Result, Ok, Err, refl, sym, ◌∙◌, ap, subst, inl, inr, add-one}
 use Rattle.std.proofs.Math.Seq.{drop-cons}
 use Rattle.std.proofs.lemmas.List.{append_assoc}
 use Rattle.std.specs.List.{AllByRecursion}
@@ -16,7 +16,7 @@ use Rattle.bs_session.specs.Known.{Known}
 use Rattle.bs_session.specs.Commands.{Outcome}
 use Rattle.bs_session.specs.Replies.{Turn, settled, turn}
 use Rattle.bs_session.specs.Space.{known_of}
-use Rattle.bs_session.specs.Needed.{need_at, need_both, need_of, Ran, ran, run, session_run, need_answered, ran_need, IsBehind}
+use Rattle.bs_session.specs.Needed.{need_at, need_both, need_of, Ran, ran, run, session_run, need_answered, ran_need, trees_named, session_trees, IsBehind}
 use Rattle.bs_session.specs.WorkNeeded.{IsWanted, AreBothWanted, NeedsTask, NeedsJob, NeededOn, KeepsNeed}
 use Rattle.bs_session.specs.Machine.{State, session_at, commands_of, tables_of, line_at, outcome_at, whole_run, run_left, need_here, need_whole}
 use Rattle.bs_session.proofs.Turns.{Turned}
@@ -99,7 +99,7 @@ run_behind script s =
     let now = settled (known_of s.space) s.used (outcome_at script s) in
     run (tables_of script s) now.known now.used (drop (suc s.place) (commands_of script s))
 
-pub run-here : (script : ScriptLines) (s : State) → s.place < length (commands_of script s) → run_left script s ≡ ran (tables_of script s) (known_of s.space) (line_at script s) ∷ run_behind script s
+pub run-here : (script : ScriptLines) (s : State) → s.place < length (commands_of script s) → run_left script s ≡ ran (tables_of script s) (known_of s.space) s.used (line_at script s) ∷ run_behind script s
 run-here script s more =
     let d : drop s.place (commands_of script s) ≡ line_at script s ∷ drop (suc s.place) (commands_of script s) = drop-cons (commands_of script s) s.place [] more in
     rw d refl
@@ -108,29 +108,47 @@ pub run-turned : (script : ScriptLines) (old new : State) → Turned (outcome_at
 run-turned script old new t = rw (t.used, t.known, t.place, t.number, add-one old.place) refl
 
 -- a command more is carried out
-pub behind-turned : (all : List Ran) (r : Ran) (left after : List Ran) → IsBehind all left → left ≡ r ∷ after → IsBehind all after
-behind-turned all r left after b e = record {
+sum_front : (front : List Ran) (r : Ran) → sum_by trees_named (front ++ r ∷ []) ≡ sum_by trees_named front + trees_named r
+sum_front [] r = omega arith
+sum_front (x ∷ front) r = omega (arith, sum_front front r)
+
+pub behind-turned : (all : List Ran) (r : Ran) (left after : List Ran) (m n : ℕ) → IsBehind all left m → left ≡ r ∷ after → n ≡ m + trees_named r → IsBehind all after n
+behind-turned all r left after m n b e named = record {
   front = b.front ++ r ∷ [];
   is = b.is ∙ ap (λ (rs : List Ran). b.front ++ rs) e ∙ sym (append_assoc b.front (r ∷ []) after);
+  trees = omega (arith, named, b.trees, sum_front b.front r);
 }
 
-pub behind-next : (script : ScriptLines) (old new : State) → old.place < length (commands_of script old) → Turned (outcome_at script old) old new → IsBehind (whole_run script old) (run_left script old) → IsBehind (whole_run script new) (run_left script new)
-behind-next script old new more t b =
-    let r : Ran = ran (tables_of script old) (known_of old.space) (line_at script old) in
+pub behind-next : (script : ScriptLines) (old new : State) → old.place < length (commands_of script old) → Turned (outcome_at script old) old new
+    → new.interned ≡ old.interned + trees_named (ran (tables_of script old) (known_of old.space) old.used (line_at script old)) → IsBehind (whole_run script old) (run_left script old) old.interned
+    → IsBehind (whole_run script new) (run_left script new) new.interned
+behind-next script old new more t named b =
+    let r : Ran = ran (tables_of script old) (known_of old.space) old.used (line_at script old) in
     let here : run_left script old ≡ r ∷ run_left script new = run-here script old more ∙ ap (λ (rs : List Ran). r ∷ rs) (sym (run-turned script old new t)) in
-    subst (λ (n : ℕ). IsBehind (session_run script (session_at script n)) (run_left script new)) (sym t.number) (behind-turned (whole_run script old) r (run_left script old) (run_left script new) b here)
+    subst (λ (n : ℕ). IsBehind (session_run script (session_at script n)) (run_left script new) new.interned) (sym t.number)
+    (behind-turned (whole_run script old) r (run_left script old) (run_left script new) old.interned new.interned b here named)
+
+drop_all : {X : Type 0} (xs : List X) → drop (length xs) xs ≡ []
+drop_all [] = refl
+drop_all (x ∷ xs) = drop_all xs
 
 -- behind the last command none is left, whatever is known
-pub behind-last : (script : ScriptLines) (old new : State) → new.number ≡ old.number → new.place ≡ old.place → old.place ≡ length (commands_of script old) → IsBehind (whole_run script old) (run_left script old) → IsBehind (whole_run script new) (run_left script new)
-behind-last script old new number place last b =
-    let none : drop old.place (commands_of script old) ≡ [] = rw last (drop_all (commands_of script old)) in
-    let before : run_left script old ≡ [] = rw none refl in
-    let after : run_left script new ≡ [] = rw (number, place, none) refl in
-    record { front = b.front; is = ap (λ (n : ℕ). session_run script (session_at script n)) number ∙ b.is ∙ ap (λ (rs : List Ran). b.front ++ rs) (before ∙ sym after) }
-  where
-    drop_all : {X : Type 0} (xs : List X) → drop (length xs) xs ≡ []
-    drop_all [] = refl
-    drop_all (x ∷ xs) = drop_all xs
+none_left : (script : ScriptLines) (s : State) → s.place ≡ length (commands_of script s) → run_left script s ≡ []
+none_left script s last = let none : drop s.place (commands_of script s) ≡ [] = rw last (drop_all (commands_of script s)) in rw none refl
+
+sum_none : (front rest : List Ran) → rest ≡ [] → sum_by trees_named (front ++ rest) ≡ sum_by trees_named front
+sum_none [] rest e = ap (λ (rs : List Ran). sum_by trees_named rs) e
+sum_none (x ∷ front) rest e = ap (λ (n : ℕ). trees_named x + n) (sum_none front rest e)
+
+-- so that all trees are named
+pub all-named : (script : ScriptLines) (s : State) → s.place ≡ length (commands_of script s) → IsBehind (whole_run script s) (run_left script s) s.interned → s.interned ≡ session_trees script (session_at script s.number)
+all-named script s last b = b.trees ∙ sym (ap (λ (rs : List Ran). sum_by trees_named rs) b.is ∙ sum_none b.front (run_left script s) (none_left script s last))
+
+pub behind-last : (script : ScriptLines) (old new : State) → new.number ≡ old.number → new.place ≡ old.place → old.place ≡ length (commands_of script old) → new.interned ≡ old.interned → IsBehind (whole_run script old) (run_left script old) old.interned → IsBehind (whole_run script new) (run_left script new) new.interned
+behind-last script old new number place last named b =
+    let before = none_left script old last in
+    let after = none_left script new (place ∙ last ∙ ap (λ (n : ℕ). length (session_at script n).commands) (sym number)) in
+    record { front = b.front; is = ap (λ (n : ℕ). session_run script (session_at script n)) number ∙ b.is ∙ ap (λ (rs : List Ran). b.front ++ rs) (before ∙ sym after); trees = named ∙ b.trees }
 
 among_flat : (f : Ran → List (Series × Tree)) (p : Series × Tree) (front : List Ran) (r : Ran) (after : List Ran) → Among p (f r) → Among p (flat_map f (front ++ r ∷ after))
 among_flat f p [] r after h = among_front p (f r) (flat_map f after) h
@@ -140,15 +158,15 @@ answered : (outcome : Outcome) (answer : Known × List ℕ) (ps : List (Series �
 answered outcome answer ps e = ap (λ (o : Outcome). need_answered o ps) e
 
 -- what the command at the place needs, the session needs
-pub need-here : (script : ScriptLines) (s : State) (answer : Known × List ℕ) (p : Series × Tree) → IsBehind (whole_run script s) (run_left script s) → s.place < length (commands_of script s) → outcome_at script s ≡ Ok answer
+pub need-here : (script : ScriptLines) (s : State) (answer : Known × List ℕ) (p : Series × Tree) → IsBehind (whole_run script s) (run_left script s) s.interned → s.place < length (commands_of script s) → outcome_at script s ≡ Ok answer
     → Among p (need_here script s) → Among p (need_whole script s)
 need-here script s answer p b more ok h =
-    let r : Ran = ran (tables_of script s) (known_of s.space) (line_at script s) in
+    let r : Ran = ran (tables_of script s) (known_of s.space) s.used (line_at script s) in
     let all : whole_run script s ≡ b.front ++ r ∷ run_behind script s = b.is ∙ ap (λ (rs : List Ran). b.front ++ rs) (run-here script s more) in
     let k : Among p (ran_need r) = subst (λ (ps : List (Series × Tree)). Among p ps) (sym (answered (outcome_at script s) answer (need_here script s) ok)) h in
     subst (λ (rs : List Ran). Among p (flat_map ran_need rs)) (sym all) (among_flat ran_need p b.front r (run_behind script s) k)
 
-pub needed-whole : (script : ScriptLines) (s : State) (answer : Known × List ℕ) (step : Step) (es : List Series) → IsBehind (whole_run script s) (run_left script s) → s.place < length (commands_of script s) → outcome_at script s ≡ Ok answer
+pub needed-whole : (script : ScriptLines) (s : State) (answer : Known × List ℕ) (step : Step) (es : List Series) → IsBehind (whole_run script s) (run_left script s) s.interned → s.place < length (commands_of script s) → outcome_at script s ≡ Ok answer
     → NeededOn es (need_here script s) step → NeededOn es (need_whole script s) step
 needed-whole script s answer (Intern tree code) es b more ok h = tt
 needed-whole script s answer (Release tree) es b more ok h = tt

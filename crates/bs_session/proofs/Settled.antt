@@ -36,6 +36,7 @@ use Rattle.bs_session.specs.declared.asked.Asked.{Asked}
 use Rattle.bs_session.specs.declared.asked.Asked.TheVariants as asked
 use Rattle.bs_session.proofs.Sound.{numbered-named, apart-named, numbered-dropped, apart-dropped}
 use Rattle.bs_session.proofs.Needed.{behind-next, behind-last}
+use Rattle.bs_session.proofs.Interned.{interned-settled, interned-refused}
 use Rattle.bs_session.proofs.Turns.{Turned, said-turned, toil-here, toil-turned, turned-settled, turned-refused, with_live, with_named, with_reply, is_short, taken_by, settles-taken, SameRest, rest-applied, known-applied}
 
 -- ---- the names
@@ -157,7 +158,7 @@ memory-settled true old text change new step s = (rest-applied change (taken_by 
 memory-settled false old text change new step s = ap (λ (t : State). t.memory) s.0
 
 sound_idle : (script : ScriptLines) (s : State) → s.number < length script.sessions → length (commands_of script s) ≤ MAX_COMMANDS → s.place ≤ length (commands_of script s) → s.used ≤ MAX_REPLIES → GoodNames s.space.live s.interned s.place
-    → Suits (plain_of script s) s.space.book → IsMemory (plain_of script s) s.space.book s.memory → s.asked ≡ asked.Nothing → IsBehind (whole_run script s) (run_left script s) → IsSound script s
+    → Suits (plain_of script s) s.space.book → IsMemory (plain_of script s) s.space.book s.memory → s.asked ≡ asked.Nothing → IsBehind (whole_run script s) (run_left script s) s.interned → IsSound script s
 sound_idle script s here few place used good suits memory idle run = record {
   here = here;
   few = few;
@@ -179,7 +180,7 @@ commands_same : (script : ScriptLines) (old new : State) → new.number ≡ old.
 commands_same script old new e = rw e refl
 
 pub sound-turned : (script : ScriptLines) (old new : State) → IsSound script old → old.place < length (commands_of script old) → new.number ≡ old.number → new.place ≡ old.place + 1 → new.used ≤ MAX_REPLIES
-    → GoodNames new.space.live new.interned (old.interned + 1) → new.space.book ≡ old.space.book → new.memory ≡ old.memory → new.asked ≡ asked.Nothing → IsBehind (whole_run script new) (run_left script new) → IsSound script new
+    → GoodNames new.space.live new.interned (old.interned + 1) → new.space.book ≡ old.space.book → new.memory ≡ old.memory → new.asked ≡ asked.Nothing → IsBehind (whole_run script new) (run_left script new) new.interned → IsSound script new
 sound-turned script old new sound more number place used good book memory idle run =
     sound_idle script new
     (rw number sound.here)
@@ -324,7 +325,7 @@ goes-settled script old new (Ok answer) out change step sound idle more outcome 
           book
           (memory-settled (is_short old answer.1) old answer.1 change new step by)
           asked
-          (behind-next script old new more turned sound.run);
+          (behind-next script old new more turned (interned-settled script old new answer change step outcome says.0 says.2 by) sound.run);
       number = turned.number;
       book = book;
       nearer = near_turned script old new more turned (more-settled (is_short old answer.1) old answer.1 change new step by) asked;
@@ -343,7 +344,7 @@ goes-refused script old new error sound idle more outcome e =
     record {
       said = said-turned script old new more turned;
       takes = quiet_of old new live interned asked;
-      sound = sound-turned script old new sound more turned.number turned.place (rw used sound.used) (good_as old new live interned sound.numbered sound.apart) book (ap (λ (t : State). t.memory) e) asked (behind-next script old new more turned sound.run);
+      sound = sound-turned script old new sound more turned.number turned.place (rw used sound.used) (good_as old new live interned sound.numbered sound.apart) book (ap (λ (t : State). t.memory) e) asked (behind-next script old new more turned (interned-refused script old new error outcome interned) sound.run);
       number = turned.number;
       book = book;
       nearer = near_turned script old new more turned (omega (arith, few)) asked;
@@ -384,7 +385,7 @@ sound-released script old new name sound idle last e sets =
     (rw (book, number) sound.suits)
     (rw (book, number, memory) sound.memory)
     asked
-    (behind-last script old new number place last sound.run)
+    (behind-last script old new number place last interned sound.run)
 
 -- ---- a question
 -- the state with another question
@@ -498,7 +499,7 @@ takes-after script old mid new (Keep id code v) number live interned t = record 
   live = t.live ∙ live;
   counted = t.counted ∙ interned;
 }
-takes-after script old mid new (Done reply) number live interned t = (sym live ∙ t.0, t.1, t.2 ∙ interned, t.3)
+takes-after script old mid new (Done reply) number live interned t = (sym live ∙ t.0, t.1, t.2 ∙ interned, t.3, t.4)
 
 -- ---- a state that only says more of memory
 pub asked-failed : (script : ScriptLines) (s : State) (failed : Bool) (question : Asked) → IsAsked script s question → IsAsked script (record s { failed = failed }) question
@@ -538,7 +539,7 @@ sound-start script s few here place interned used live series book memory idle =
     (rw book tt)
     (memory (plain_of script s) s.space.book)
     idle
-    (record { front = []; is = rw (place, used, live, series) refl })
+    (record { front = []; is = rw (place, used, live, series) refl; trees = interned })
 
 pub said-start : (script : ScriptLines) (s : State) → s.place ≡ 0 → s.used ≡ 0 → s.out ≡ [] → s.space.live ≡ [] → s.space.series ≡ [] → said script s ≡ session_replies script (session_at script s.number)
 said-start script s place used out live series = rw (place, used, out, live, series) refl

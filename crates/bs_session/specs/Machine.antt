@@ -41,7 +41,7 @@ use Rattle.bs_session.specs.Space.{Space, known_of}
 use Rattle.bs_session.specs.Works.{IsWork, IsHeldWork, IsHanded, StepsOn, whole_reply, work_left}
 use Rattle.bs_session.specs.WorkNeeded.{AreNeeded, NeededOn}
 use Rattle.bs_session.specs.Toil.{toil}
-use Rattle.bs_session.specs.Needed.{Ran, run, session_run, session_need, need_of, IsBehind}
+use Rattle.bs_session.specs.Needed.{Ran, run, session_run, session_need, session_trees, need_of, IsBehind}
 use Rattle.bs_session.specs.Changes.{IsLive, Asks}
 use Rattle.bs_session.specs.declared.TheConstants.{MAX_REPLIES}
 use Rattle.bs_session.specs.declared.live.LiveTree.{LiveTree}
@@ -164,7 +164,7 @@ pub record IsSound (script : ScriptLines) (s : State) : Type 0 where
   pub suits : Suits (plain_of script s) s.space.book
   pub memory : IsMemory (plain_of script s) s.space.book s.memory
   pub asked : IsAsked script s s.asked
-  pub run : IsBehind (whole_run script s) (run_left script s)
+  pub run : IsBehind (whole_run script s) (run_left script s) s.interned
 
 -- whether the answer is yes
 abbrev pub is_yes : Answer → Bool
@@ -245,6 +245,7 @@ Takes script old new (Look id code) = Works script old new (Look id code)
 Takes script old new (Keep id code v) = Works script old new (Keep id code v)
 Takes script old new (Done reply) =
     (old.space.live ≡ []) × (new.space.live ≡ []) × (new.interned ≡ old.interned) × (new.asked ≡ asked.Nothing)
+    × (new.interned ≡ session_trees script (session_at script new.number))
 
 -- ---- what is left
 abbrev pub idle : Asked → ℕ
