@@ -11,7 +11,7 @@
 --                           pairs that wait; the former are in the sheet, the latter are not, with the pair whose look is now answered with nothing
 --
 -- Source: this project.
-use Rattle.std.specs.Prelude.{◌≡◌, ℕ, ◌+◌, ◌<◌, List, length, map, sum_by, Option, None, IsSome}
+use Rattle.std.specs.Prelude.{◌≡◌, ℕ, ◌+◌, ◌<◌, List, [], ◌∷◌, length, map, Option, None, IsSome}
 use Rattle.std.specs.List.{AllByRecursion}
 use Rattle.bs_frac.specs.declared.coef.Coef.{Coef}
 use Rattle.bs_tree.specs.Tree.{Tree}
@@ -33,7 +33,8 @@ abbrev pub at_tree : Series × Code → Series × Tree
 at_tree p = (p.0, tree_of p.1)
 
 abbrev pub sum_terms : List (Series × Code) → ℕ
-sum_terms ps = sum_by (λ p. terms p.0 p.1) ps
+sum_terms [] = 0
+sum_terms (p ∷ ps) = terms p.0 p.1 + sum_terms ps
 
 pub record IsOf (ns : List (Series × Tree)) (p : Series × Code) : Type 0 where
   pub canonical : IsCode p.1

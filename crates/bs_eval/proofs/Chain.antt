@@ -144,12 +144,12 @@ pub opened_apart : (tables : List Table) (es : List Series) (of : Pair) (fs : Li
 opened_apart tables es of fs s p n h e = stands_apart tables es of fs p (let k : IsSoundAt tables es of fs (Looking p n) = subst (IsSoundAt tables es of fs) e h in k.1)
 
 -- ---- what is needed
-among_front : {X : Type 0} (x : X) (xs ys : List X) → Among x xs → Among x (xs ++ ys)
+pub among_front : {X : Type 0} (x : X) (xs ys : List X) → Among x xs → Among x (xs ++ ys)
 among_front x [] ys h = absurd h
 among_front x (y ∷ xs) ys (inl e) = inl e
 among_front x (y ∷ xs) ys (inr h) = inr (among_front x xs ys h)
 
-among_behind : {X : Type 0} (x : X) (xs ys : List X) → Among x ys → Among x (xs ++ ys)
+pub among_behind : {X : Type 0} (x : X) (xs ys : List X) → Among x ys → Among x (xs ++ ys)
 among_behind x [] ys h = h
 among_behind x (y ∷ xs) ys h = inr (among_behind x xs ys h)
 

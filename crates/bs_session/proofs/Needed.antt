@@ -1,7 +1,8 @@
 -- What a session needs: that its commands' parts are parts of the whole, and the trees of a command those that its work wants.
-use Rattle.std.proofs.Common.{◌≡◌, ℕ, suc, ◌+◌, ◌<◌, sum_by, arith, List, [], ◌∷◌, ◌++◌, length, drop, flat_map, Option, Some, None, Result, Ok, Err, refl, sym, ◌∙◌, ap, subst, inl, inr, add-one}
+use Rattle.std.proofs.Common.{◌≡◌, ℕ, suc, ◌+◌, ◌<◌, sum_by, arith, List, [], ◌∷◌, ◌++◌, length, drop, flat_map, Option, Some, None, Result, Ok, Err, refl, sym, ◌∙◌, ap, subst, inl, inr, add-one, zero-add, append-nil}
 use Rattle.std.proofs.Math.Seq.{drop-cons}
 use Rattle.std.proofs.lemmas.List.{append_assoc}
+use Rattle.std.proofs.lemmas.List.Sums.{sum_by-append}
 use Rattle.std.specs.List.{AllByRecursion}
 use Rattle.bs_tree.specs.Tree.{Tree}
 use Rattle.bs_tree.specs.Code.{tree_of}
@@ -17,7 +18,7 @@ use Rattle.bs_session.specs.Commands.{Outcome}
 use Rattle.bs_session.specs.Replies.{Turn, settled, turn}
 use Rattle.bs_session.specs.Space.{known_of}
 use Rattle.bs_session.specs.Needed.{need_at, need_both, need_of, Ran, ran, run, session_run, need_answered, ran_need, trees_named, session_trees, IsBehind}
-use Rattle.bs_session.specs.WorkNeeded.{IsWanted, AreBothWanted, NeedsTask, NeedsJob, NeededOn, KeepsNeed}
+use Rattle.bs_session.specs.WorkNeeded.{IsWanted, AreBothWanted, NeedsTask, NeedsJob, NeededOn, NeedsNoMore, KeepsNeed}
 use Rattle.bs_session.specs.Machine.{State, session_at, commands_of, tables_of, line_at, outcome_at, whole_run, run_left, need_here, need_whole}
 use Rattle.bs_session.proofs.Turns.{Turned}
 use Rattle.bs_session.specs.declared.step.Step.{Step}
@@ -29,20 +30,11 @@ use Rattle.bs_session.specs.Works.{pair_of}
 use Rattle.bs_frac.specs.declared.coef.Coef.{Coef}
 use Rattle.bs_eval.specs.Machine.{asked}
 use Rattle.bs_eval.specs.Needs.{IsFresh}
+use Rattle.bs_eval.proofs.Chain.{among_front, among_behind}
 use Rattle.bs_eval.specs.declared.pair.Pair.{Pair}
 use Rattle.bs_eval.specs.declared.eval.Ask.{Ask}
 use Rattle.bs_eval.specs.declared.eval.Ask.TheVariants as ask
 use Rattle.bs_eval.specs.declared.eval.Eval.{Eval}
-
--- ---- one of some
-among_front : {X : Type 0} (x : X) (xs ys : List X) → Among x xs → Among x (xs ++ ys)
-among_front x [] ys h = absurd h
-among_front x (y ∷ xs) ys (inl e) = inl e
-among_front x (y ∷ xs) ys (inr h) = inr (among_front x xs ys h)
-
-among_behind : {X : Type 0} (x : X) (xs ys : List X) → Among x ys → Among x (xs ++ ys)
-among_behind x [] ys h = h
-among_behind x (y ∷ xs) ys h = inr (among_behind x xs ys h)
 
 -- ---- the trees of a command
 wanted_more : (es : List Series) (ms ns : List (Series × Tree)) (id : ℕ) → ((p : Series × Tree) → Among p ms → Among p ns) → (cs : List Code) → AllByRecursion (IsWanted es ms id) cs → AllByRecursion (IsWanted es ns id) cs
@@ -92,6 +84,16 @@ pub keeps_keep : (es : List Series) (old new : Work) (job : Job) (after : Eval) 
 keeps_keep es old new job after id code v before is =
     record { needs = λ ns h. (needs_job es ns new.job after job.task is (job_needs es ns old.job job before h), tt) }
 
+-- what is wanted after some steps
+pub needs_refl : (es : List Series) (w : Work) → NeedsNoMore es w w
+needs_refl es w = record { needs = λ ns h. h }
+
+pub needs_then : (es : List Series) (a b c : Work) → NeedsNoMore es a b → NeedsNoMore es b c → NeedsNoMore es a c
+needs_then es a b c f g = record { needs = λ ns h. g.needs ns (f.needs ns h) }
+
+pub keeps_then : (es : List Series) (a b c : Work) (step : Step) → NeedsNoMore es a b → KeepsNeed es b c step → KeepsNeed es a c step
+keeps_then es a b c step f g = record { needs = λ ns h. g.needs ns (f.needs ns h) }
+
 -- ---- the commands that are left
 -- those behind the one at the place
 abbrev pub run_behind : ScriptLines → State → List Ran
@@ -109,8 +111,9 @@ run-turned script old new t = rw (t.used, t.known, t.place, t.number, add-one ol
 
 -- a command more is carried out
 sum_front : (front : List Ran) (r : Ran) → sum_by trees_named (front ++ r ∷ []) ≡ sum_by trees_named front + trees_named r
-sum_front [] r = omega arith
-sum_front (x ∷ front) r = omega (arith, sum_front front r)
+sum_front front r =
+    let one : sum_by trees_named (r ∷ []) ≡ trees_named r = zero-add (trees_named r) in
+    sum_by-append trees_named front (r ∷ []) ∙ ap (λ (n : ℕ). sum_by trees_named front + n) one
 
 pub behind-turned : (all : List Ran) (r : Ran) (left after : List Ran) (m n : ℕ) → IsBehind all left m → left ≡ r ∷ after → n ≡ m + trees_named r → IsBehind all after n
 behind-turned all r left after m n b e named = record {
@@ -137,8 +140,7 @@ none_left : (script : ScriptLines) (s : State) → s.place ≡ length (commands_
 none_left script s last = let none : drop s.place (commands_of script s) ≡ [] = rw last (drop_all (commands_of script s)) in rw none refl
 
 sum_none : (front rest : List Ran) → rest ≡ [] → sum_by trees_named (front ++ rest) ≡ sum_by trees_named front
-sum_none [] rest e = ap (λ (rs : List Ran). sum_by trees_named rs) e
-sum_none (x ∷ front) rest e = ap (λ (n : ℕ). trees_named x + n) (sum_none front rest e)
+sum_none front rest e = ap (λ (rs : List Ran). sum_by trees_named (front ++ rs)) e ∙ ap (λ (rs : List Ran). sum_by trees_named rs) (append-nil front)
 
 -- so that all trees are named
 pub all-named : (script : ScriptLines) (s : State) → s.place ≡ length (commands_of script s) → IsBehind (whole_run script s) (run_left script s) s.interned → s.interned ≡ session_trees script (session_at script s.number)

@@ -5,6 +5,7 @@
 --   NeedsNext, NeedsJob    == the same of a task that comes next, and of a job; where there is none nothing is wanted
 --   AreNeeded es ns w      == the same of all that the work wants
 --   NeededOn es ns step    == a Look is for one of the pairs ns
+--   NeedsNoMore es w w'    == whatever has all that the work wants has all that it wants afterwards
 --   KeepsNeed es w w' step == whatever has all that the work wants has all that it wants after the step, and what the step looks for
 --
 -- Source: this project.
@@ -57,6 +58,9 @@ NeededOn es ns (Same left right) = Unit {0}
 NeededOn es ns (Look id code) = Among (series_at es id, tree_of code) ns
 NeededOn es ns (Keep id code v) = Unit {0}
 NeededOn es ns (Done reply) = Unit {0}
+
+pub record NeedsNoMore (es : List Series) (old new : Work) : Type 0 where
+  pub needs : (ns : List (Series × Tree)) → AreNeeded es ns old → AreNeeded es ns new
 
 pub record KeepsNeed (es : List Series) (old new : Work) (step : Step) : Type 0 where
   pub needs : (ns : List (Series × Tree)) → AreNeeded es ns old → AreNeeded es ns new × NeededOn es ns step

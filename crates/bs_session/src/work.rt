@@ -17,7 +17,7 @@ ghost use Rattle.bs_reply.specs.Lines.{coeff_line};
 ghost use Rattle.bs_session.specs.SeriesReplies.{print_reply, equal_reply};
 ghost use Rattle.bs_tree.specs.Tree.{Tree};
 ghost use Rattle.bs_session.specs.Needed.{need_at, need_to_print, need_to_compare};
-ghost use Rattle.bs_session.specs.WorkNeeded.{NeedsNext, NeedsBehind, NeedsJob, AreNeeded, KeepsNeed};
+ghost use Rattle.bs_session.specs.WorkNeeded.{NeedsNext, NeedsBehind, NeedsJob, AreNeeded, NeedsNoMore, KeepsNeed};
 ghost use Rattle.bs_session.specs.WorkCounted.{completed_on, job_begun, job_waiting, job_waited, work_begun, work_waiting, work_waited, MovesOn, ApartOn};
 ghost use Rattle.bs_session.specs.Works.{to_come_next, to_come_of, whole_reply, next_left, job_left, work_left, turns_to_print, turns_to_compare, HasColoured, IsNext, IsJob, IsWork, IsHeldJob, IsHeldWork, IsHanded, IsTask, StepsOn, pair_of, turns_behind};
 
@@ -242,7 +242,7 @@ impl Work {
         ensures idle { IfOk result (λ step. IfNone step (work_waited self.new None ≡ [])) }
         ensures nearer { OnOk result (work_left book.now self.new < work_left book.now self.old) }
         ensures need { IfOk result (λ step. IfSome step (KeepsNeed book.now self.old self.new)) }
-        ensures needs { (ns : List (Series × Tree)) → AreNeeded book.now ns self.old → IfOk result (λ step. IfNone step (AreNeeded book.now ns self.new)) }
+        ensures needs { IfOk result (λ step. IfNone step (NeedsNoMore book.now self.old self.new)) }
     {
         match &mut self.job {
             None => Ok(None),

@@ -1,7 +1,5 @@
-use Rattle.std.proofs.Common.{◌≡◌, ◌≤◌, ◌+◌, List}
-use Rattle.bs_tree.specs.Tree.{Tree}
-use Rattle.bs_series.specs.Series.{Series}
-use Rattle.bs_session.specs.WorkNeeded.{AreNeeded}
+use Rattle.std.proofs.Common.{◌≡◌, ◌≤◌, ◌+◌}
+use Rattle.bs_session.specs.WorkNeeded.{NeedsNoMore}
 use Rattle.bs_session.specs.WorkCounted.{work_begun, work_waited}
 use Rattle.bs_eval.specs.Values.{IsMemory}
 use Rattle.bs_session.specs.Works.{whole_reply, work_left, IsWork, IsHeldWork, IsHanded}
@@ -17,7 +15,7 @@ invariant-coefficients g l = record {
   counted : l.steps + work_begun l.book l.fn.self ≡ l.initial.steps + work_begun l.book l.self;
   waited : work_waited l.self l.found ≡ work_waited l.fn.self l.initial.found;
   nearer : work_left l.book l.self ≤ work_left l.book l.fn.self;
-  needs : (ns : List (Series × Tree)) → AreNeeded l.book ns l.fn.self → AreNeeded l.book ns l.self;
+  needs : NeedsNoMore l.book l.fn.self l.self;
 }
 
 abbrev pub decreases-coefficients : goal.decreases-coefficients

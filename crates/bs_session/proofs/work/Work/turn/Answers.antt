@@ -26,8 +26,8 @@ returns-in_ok-tell-in-Done-clause-counted g c =
     omega (arith, e.counted, b, k, j, c.in_ok-tell-in-Done.ensures.begun es)
 
 pub returns-in_ok-tell-in-Done-clause-needs : goal.returns-in_ok-tell-in-Done-clause-needs
-returns-in_ok-tell-in-Done-clause-needs g c = λ ns h.
-    let es = c.args.book.now in c.in_ok-tell-in-Done.ensures.needs es ns (subst (NeedsJob es ns) c.in-Some.is h).1
+returns-in_ok-tell-in-Done-clause-needs g c =
+    let es = c.args.book.now in record { needs = λ ns h. c.in_ok-tell-in-Done.ensures.needs es ns (subst (NeedsJob es ns) c.in-Some.is h).1 }
 
 pub returns-in-Look-clause-need : goal.returns-in-Look-clause-need
 returns-in-Look-clause-need g c =
