@@ -9,10 +9,10 @@ use Rattle.bs_series.specs.Plan.{Factor, fixed, at, turned, plan, plan_factors, 
 use Rattle.bs_series.specs.PlanItems.{is_looked_up, pair_of, looked_up, needed_within, needed, NeededLaw}
 use Rattle.bs_series.proofs.Below.{plan_below, size_pos}
 
-abbrev rank : Series → Tree → ℕ
+abbrev pub rank : Series → Tree → ℕ
 rank s t = size s * order t
 
-falls : (s : Series) (t : Tree) (s' : Series) (t' : Tree) → IsBelow s t s' t' → rank s' t' < rank s t
+pub falls : (s : Series) (t : Tree) (s' : Series) (t' : Tree) → IsBelow s t s' t' → rank s' t' < rank s t
 falls s t s' t' (inl h) =
     let a : size s' * order t' ≤ size s' * order t = mul-le-mul_left (size s') h.1 in
     let b : order t * suc (size s') ≤ order t * size s = mul-le-mul_left (order t) (omega (arith, h.0)) in

@@ -4,6 +4,7 @@ pub mod Value
 pub mod Plan
 pub mod SeriesCode
 pub mod PlanItems
+pub mod Needed
 pub mod Laws
 pub mod Keys
 pub mod Accepted

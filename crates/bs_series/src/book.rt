@@ -61,6 +61,13 @@ impl Book {
         }
     }
 
+    /// No expression has two ids: a fact for proofs. It does nothing.
+    pub fn ids_differ(&self)
+        ensures { (i : ℕ) → i < length self.now → IsOnlyAt self.now i }
+    {
+        let _nodes = &self.nodes;
+    }
+
     /// The node of a series.
     pub(crate) fn node(&self, id: SeriesId) -> Node
         requires { id < length self.now }

@@ -17,6 +17,8 @@ use Rattle.bs_session.specs.Verbs.{verb_of}
 use Rattle.bs_session.specs.SeriesReplies.{print_reply, equal_reply}
 use Rattle.bs_session.specs.Works.{IsWork, IsHeldWork, whole_reply, work_left, turns_to_print, turns_to_compare}
 use Rattle.bs_session.specs.Toil.{toil_by, toil_of}
+use Rattle.bs_session.specs.Needed.{need_at, need_to_print, need_to_compare, need_by, need_of}
+use Rattle.bs_session.specs.WorkNeeded.{AreNeeded}
 use Rattle.bs_session.specs.Changes.{Begins}
 use Rattle.bs_session.specs.declared.TheConstants.{MAX_CONDITIONS, MAX_COEFF_ORDER}
 use Rattle.bs_session.specs.declared.error.Error.{Error}
@@ -33,14 +35,16 @@ module _ (tables : Tables) (space : Space) (ws : List (List ℕ)) (w : Work) whe
       → has_colours (colours_of (series_at space.book id)) tree.code ≡ true → length tree.code ≤ MAX_COEFF_ORDER
       → ((ts : List Table) → whole_reply ts space.book w ≡ coeff_line (written_at ts (series_at space.book id) tree.code))
       → ((ts : List Table) → IsWork ts space.book w) → ((m : Memory) → IsHeldWork space.book m w) → work_left space.book w ≤ suc (turns (series_at space.book id) tree.code)
-      → Begins (plain tables) space (coeff_command tables (known_of space) ws) (toil_by (known_of space) (Some Coeff) ws) w
-  coeff-begins a b id tree words finds live coloured small reply work held left =
+      → AreNeeded space.book (need_at (series_at space.book id) tree.code) w
+      → Begins (plain tables) space (coeff_command tables (known_of space) ws) (toil_by (known_of space) (Some Coeff) ws) (need_by (known_of space) (Some Coeff) ws) w
+  coeff-begins a b id tree words finds live coloured small reply work held left needs =
       let short : nat_lt MAX_COEFF_ORDER (length tree.code) ≡ false = grind (arith, nat_tests, small) in
       record {
         is = rw (words, finds.1, live, coloured, short, reply (plain tables)) refl;
         work = work (plain tables);
         held = held;
         left = rw (words, finds.1, live) left;
+        needs = rw (words, finds.1, live) needs;
       }
 
 -- ---- the order that is asked for
@@ -74,33 +78,37 @@ module _ (tables : Tables) (space : Space) (ws : List (List ℕ)) (w : Work) whe
       → order_asked MAX_CONDITIONS (colours_of (series_at space.book id)) (order_to b) ≡ Ok p
       → ((ts : List Table) → whole_reply ts space.book w ≡ print_reply ts (series_at space.book id) p)
       → ((ts : List Table) → IsWork ts space.book w) → ((m : Memory) → IsHeldWork space.book m w) → work_left space.book w ≤ turns_to_print (series_at space.book id) p
-      → Begins (plain tables) space (print_command tables (known_of space) ws) (toil_by (known_of space) (Some Print) ws) w
-  print-begins a b id p words finds order reply work held left =
+      → AreNeeded space.book (need_to_print (series_at space.book id) p) w
+      → Begins (plain tables) space (print_command tables (known_of space) ws) (toil_by (known_of space) (Some Print) ws) (need_by (known_of space) (Some Print) ws) w
+  print-begins a b id p words finds order reply work held left needs =
       let asked = order_is MAX_CONDITIONS (colours_of (series_at space.book id)) p (order_to b) order in
       record {
         is = rw (words, finds.1, order, reply (plain tables)) refl;
         work = work (plain tables);
         held = held;
         left = rw (words, finds.1, asked) left;
+        needs = rw (words, finds.1, asked) needs;
       }
 
   pub equal-begins : (a b c : List ℕ) (i j p : ℕ) → three ws ≡ Some (a, b, c) → Finds space a (Some i) → Finds space b (Some j)
       → order_shared MAX_CONDITIONS (colours_of (series_at space.book i)) (colours_of (series_at space.book j)) (order_to c) ≡ Ok p
       → ((ts : List Table) → whole_reply ts space.book w ≡ equal_reply ts (series_at space.book i) (series_at space.book j) p)
       → ((ts : List Table) → IsWork ts space.book w) → ((m : Memory) → IsHeldWork space.book m w) → work_left space.book w ≤ turns_to_compare (series_at space.book i) (series_at space.book j) p
-      → Begins (plain tables) space (equal_command tables (known_of space) ws) (toil_by (known_of space) (Some Equal) ws) w
-  equal-begins a b c i j p words left_finds right_finds order reply work held left =
+      → AreNeeded space.book (need_to_compare (series_at space.book i) (series_at space.book j) p) w
+      → Begins (plain tables) space (equal_command tables (known_of space) ws) (toil_by (known_of space) (Some Equal) ws) (need_by (known_of space) (Some Equal) ws) w
+  equal-begins a b c i j p words left_finds right_finds order reply work held left needs =
       let asked = shared_is MAX_CONDITIONS (colours_of (series_at space.book i)) (colours_of (series_at space.book j)) p (order_to c) order in
       record {
         is = rw (words, left_finds.1, right_finds.1, order, reply (plain tables)) refl;
         work = work (plain tables);
         held = held;
         left = rw (words, left_finds.1, right_finds.1, asked) left;
+        needs = rw (words, left_finds.1, right_finds.1, asked) needs;
       }
 
 -- ---- the command of a line
 pub begins-line : (tables : Tables) (space : Space) (ws rest : List (List ℕ)) (first : List ℕ) (verb : Verb) (w : Work) → ws ≡ first ∷ rest → verb_of first ≡ Some verb
-    → Begins (plain tables) space (command_of tables (known_of space) (Some verb) rest) (toil_by (known_of space) (Some verb) rest) w
-    → Begins (plain tables) space (command tables (known_of space) ws) (toil_of (known_of space) ws) w
-unfolding command toil_of
+    → Begins (plain tables) space (command_of tables (known_of space) (Some verb) rest) (toil_by (known_of space) (Some verb) rest) (need_by (known_of space) (Some verb) rest) w
+    → Begins (plain tables) space (command tables (known_of space) ws) (toil_of (known_of space) ws) (need_of (known_of space) ws) w
+unfolding command toil_of need_of
 begins-line tables space ws rest first verb w line is b = rw (line, is) b

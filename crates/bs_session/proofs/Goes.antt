@@ -14,7 +14,8 @@ use Rattle.bs_session.specs.Space.{Space, known_of}
 use Rattle.bs_session.specs.Toil.{toil_of}
 use Rattle.bs_session.specs.Works.{IsWork, IsHeldWork, StepsOn, whole_reply, work_left}
 use Rattle.bs_session.specs.Changes.{IsBookOf, Begins}
-use Rattle.bs_session.specs.Machine.{State, commands_of, tables_of, plain_of, line_at, outcome_at, said, IsSound, IsAsked, Evaluates, Takes, IsDone, toil_behind, toil_from, left, idle}
+use Rattle.bs_session.specs.WorkNeeded.{AreNeeded, NeededOn}
+use Rattle.bs_session.specs.Machine.{need_here, need_whole, State, commands_of, tables_of, plain_of, line_at, outcome_at, said, IsSound, IsAsked, Evaluates, Takes, IsDone, toil_behind, toil_from, left, idle}
 use Rattle.bs_session.specs.Turns.{IsQuiet, GoesOn, accepted}
 use Rattle.bs_session.specs.declared.asked.Asked.{Asked}
 use Rattle.bs_session.specs.declared.asked.Asked.TheVariants as asked
@@ -23,6 +24,7 @@ use Rattle.bs_session.specs.declared.live.LiveTree.{LiveTree}
 use Rattle.bs_session.specs.declared.step.Step.{Step}
 use Rattle.bs_session.specs.declared.step.Step.TheVariants.{Intern, Release, Same, Look, Keep, Done}
 use Rattle.bs_session.specs.declared.work.Work.{Work}
+use Rattle.bs_session.proofs.Needed.{needed-whole}
 use Rattle.bs_session.proofs.Turns.{toil-here}
 use Rattle.bs_session.proofs.Settled.{Goes, goes-settled, left_here, asking, unasked, sound-asking, asked-as, takes-after, settles-nothing}
 
@@ -106,6 +108,7 @@ sound-grown script old space work sound idle book = record {
   suits = book.suits;
   memory = memory_extends (plain_of script old) old.space.book space.book old.memory sound.memory book.ids_stay;
   asked = rw idle tt;
+  run = rw (book.live, book.series) sound.run;
 }
 
 pub known-grown : (ts : List Table) (old new : Space) → IsBookOf ts old new → known_of new ≡ known_of old
@@ -128,7 +131,7 @@ abbrev pub begun : State → Space → Work → State
 begun s space work = record s { space = space; work = work; asked = asked.Value }
 
 pub sound-begun : (script : ScriptLines) (old : State) (space : Space) (work : Work) (most : ℕ) → IsSound script old → old.place < length (commands_of script old) → IsBookOf (plain_of script old) old.space space
-    → Begins (plain_of script old) space (outcome_at script old) most work → IsSound script (begun old space work)
+    → Begins (plain_of script old) space (outcome_at script old) most (need_here script old) work → IsSound script (begun old space work)
 sound-begun script old space work most sound more book b = record {
   here = sound.here;
   few = sound.few;
@@ -144,7 +147,9 @@ sound-begun script old space work most sound more book b = record {
     work = b.work;
     held = b.held old.memory;
     reply = rw (book.live, book.series) (rw (book.live, book.series) at b.is);
+    needs = rw (book.live, book.series) b.needs;
   };
+  run = rw (book.live, book.series) sound.run;
 }
 
 pub alike-begun : (script : ScriptLines) (old : State) (space : Space) (work : Work) → old.asked ≡ asked.Nothing → old.place < length (commands_of script old) → IsBookOf (plain_of script old) old.space space
@@ -166,24 +171,25 @@ alike-begun script old space work idle more book few =
 abbrev pub working : State → Work → Memory → State
 working s work memory = record s { work = work; memory = memory }
 
-works_of : (script : ScriptLines) (old : State) (work : Work) (memory : Memory) (step : Step) → old.asked ≡ asked.Value → StepsOn (plain_of script old) old.space.book work step → Takes script old (working old work memory) step × (¬ IsDone step)
-works_of script old work memory (Intern tree code) value s = absurd s
-works_of script old work memory (Release tree) value s = absurd s
-works_of script old work memory (Same x y) value s = absurd s
-works_of script old work memory (Look id code) value s = (record { asked = value; is = s; live = refl; counted = refl }, λ done. done)
-works_of script old work memory (Keep id code v) value s = (record { asked = value; is = s; live = refl; counted = refl }, λ done. done)
-works_of script old work memory (Done reply) value s = absurd s
+works_of : (script : ScriptLines) (old : State) (work : Work) (memory : Memory) (step : Step) → old.asked ≡ asked.Value → StepsOn (plain_of script old) old.space.book work step → NeededOn old.space.book (need_whole script old) step → Takes script old (working old work memory) step × (¬ IsDone step)
+works_of script old work memory (Intern tree code) value s n = absurd s
+works_of script old work memory (Release tree) value s n = absurd s
+works_of script old work memory (Same x y) value s n = absurd s
+works_of script old work memory (Look id code) value s n = (record { asked = value; is = s; needed = n; live = refl; counted = refl }, λ done. done)
+works_of script old work memory (Keep id code v) value s n = (record { asked = value; is = s; needed = n; live = refl; counted = refl }, λ done. done)
+works_of script old work memory (Done reply) value s n = absurd s
 
-sound_working : (script : ScriptLines) (old : State) (work : Work) (memory : Memory) → IsSound script old → old.asked ≡ asked.Value → IsWork (plain_of script old) old.space.book work
+sound_working : (script : ScriptLines) (old : State) (work : Work) (memory : Memory) → IsSound script old → old.asked ≡ asked.Value → AreNeeded old.space.book (need_here script old) work → IsWork (plain_of script old) old.space.book work
     → IsHeldWork old.space.book memory work → IsMemory (plain_of script old) old.space.book memory
     → whole_reply (plain_of script old) old.space.book work ≡ whole_reply (plain_of script old) old.space.book old.work → IsSound script (working old work memory)
-sound_working script old work memory sound value is held right same =
+sound_working script old work memory sound value needs is held right same =
     let e = asked-as script old asked.Value value sound in
     let evaluates : Evaluates script (working old work memory) = record {
       here = e.here;
       work = is;
       held = held;
       reply = e.reply ∙ ap (λ (r : List ℕ). let o : Outcome = Ok (known_of old.space, r) in o) (sym same);
+      needs = needs;
     } in
     record {
       here = sound.here;
@@ -196,6 +202,7 @@ sound_working script old work memory sound value is held right same =
       suits = sound.suits;
       memory = right;
       asked = subst (λ q. IsAsked script (working old work memory) q) (sym value) evaluates;
+      run = sound.run;
     }
 
 pub goes-working : (script : ScriptLines) (old : State) (work : Work) (memory : Memory) (step : Step) → IsSound script old → old.asked ≡ asked.Value
@@ -203,10 +210,12 @@ pub goes-working : (script : ScriptLines) (old : State) (work : Work) (memory : 
 goes-working script old work memory step sound value g =
     let now : left script (working old work memory) ≡ 3 * (length (commands_of script old) - old.place) + length old.space.live + 0 + (work_left old.space.book work + toil_behind script old) = rw value refl in
     let before : left script old ≡ 3 * (length (commands_of script old) - old.place) + length old.space.live + 0 + (work_left old.space.book old.work + toil_behind script old) = rw value refl in
+    let e = asked-as script old asked.Value value sound in
+    let k = g.need.needs (need_here script old) e.needs in
     record {
       said = refl;
-      takes = works_of script old work memory step value g.is;
-      sound = sound_working script old work memory sound value g.work g.held g.memory g.reply;
+      takes = works_of script old work memory step value g.is (needed-whole script old (known_of old.space, whole_reply (plain_of script old) old.space.book old.work) step old.space.book sound.run e.here e.reply k.1);
+      sound = sound_working script old work memory sound value k.0 g.work g.held g.memory g.reply;
       number = refl;
       ids_stay = Extends-refl old.space.book;
       nearer = omega (arith, now, before, g.nearer);
@@ -232,6 +241,7 @@ goes-worked script old new work memory sound value g0 e =
       suits = sound.suits;
       memory = g0.1;
       asked = tt;
+      run = sound.run;
     } in
     let g = goes-settled script mid new (Ok reply) (old.out ++ work.draft.items) Nothing None mid_sound refl is.here outcome (refl, refl, tt)
     (settles-nothing (length old.out) (record old { work = work; memory = memory; out = old.out ++ work.draft.items; asked = asked.Nothing }) new e) in
@@ -314,6 +324,6 @@ takes-failed script old new failed (Same x y) t = record {
   live = t.live;
   counted = t.counted;
 }
-takes-failed script old new failed (Look id code) t = record { asked = t.asked; is = t.is; live = t.live; counted = t.counted }
-takes-failed script old new failed (Keep id code v) t = record { asked = t.asked; is = t.is; live = t.live; counted = t.counted }
+takes-failed script old new failed (Look id code) t = record { asked = t.asked; is = t.is; needed = t.needed; live = t.live; counted = t.counted }
+takes-failed script old new failed (Keep id code v) t = record { asked = t.asked; is = t.is; needed = t.needed; live = t.live; counted = t.counted }
 takes-failed script old new failed (Done reply) t = t

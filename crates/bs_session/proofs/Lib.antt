@@ -14,3 +14,6 @@ mod Jobs
 mod Reading
 mod Walked
 mod OrderTold
+pub mod Counting
+pub mod Needed
+mod Interned

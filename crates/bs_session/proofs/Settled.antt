@@ -20,7 +20,8 @@ use Rattle.bs_session.specs.Known.{plain}
 use Rattle.bs_session.specs.Space.{Space, known_of}
 use Rattle.bs_session.specs.Changes.{known_after, IsApt, Says, Asks}
 use Rattle.bs_eval.specs.Values.{IsMemory}
-use Rattle.bs_session.specs.Machine.{State, no_session, session_at, commands_of, tables_of, line_at, outcome_at, said, IsSound, IsAsked, AreNumbered, AreApart, Interns, Releases, Compares, IsTrueOf, is_yes, Takes, IsDone, plain_of, toil_behind, toil_from, left}
+use Rattle.bs_session.specs.Needed.{IsBehind}
+use Rattle.bs_session.specs.Machine.{whole_run, run_left, State, no_session, session_at, commands_of, tables_of, line_at, outcome_at, said, IsSound, IsAsked, AreNumbered, AreApart, Interns, Releases, Compares, IsTrueOf, is_yes, Takes, IsDone, plain_of, toil_behind, toil_from, left}
 use Rattle.bs_session.specs.Turns.{Applies, SettlesBy, Settles, IsQuiet, fits, accepted}
 use Rattle.bs_session.specs.declared.TheConstants.{MAX_REPLIES}
 use Rattle.bs_session.specs.declared.error.Error.{Error}
@@ -34,6 +35,8 @@ use Rattle.bs_session.specs.declared.step.Step.TheVariants.{Intern, Release, Sam
 use Rattle.bs_session.specs.declared.asked.Asked.{Asked}
 use Rattle.bs_session.specs.declared.asked.Asked.TheVariants as asked
 use Rattle.bs_session.proofs.Sound.{numbered-named, apart-named, numbered-dropped, apart-dropped}
+use Rattle.bs_session.proofs.Needed.{behind-next, behind-last}
+use Rattle.bs_session.proofs.Interned.{interned-settled, interned-refused}
 use Rattle.bs_session.proofs.Turns.{Turned, said-turned, toil-here, toil-turned, turned-settled, turned-refused, with_live, with_named, with_reply, is_short, taken_by, settles-taken, SameRest, rest-applied, known-applied}
 
 -- ---- the names
@@ -155,8 +158,8 @@ memory-settled true old text change new step s = (rest-applied change (taken_by 
 memory-settled false old text change new step s = ap (λ (t : State). t.memory) s.0
 
 sound_idle : (script : ScriptLines) (s : State) → s.number < length script.sessions → length (commands_of script s) ≤ MAX_COMMANDS → s.place ≤ length (commands_of script s) → s.used ≤ MAX_REPLIES → GoodNames s.space.live s.interned s.place
-    → Suits (plain_of script s) s.space.book → IsMemory (plain_of script s) s.space.book s.memory → s.asked ≡ asked.Nothing → IsSound script s
-sound_idle script s here few place used good suits memory idle = record {
+    → Suits (plain_of script s) s.space.book → IsMemory (plain_of script s) s.space.book s.memory → s.asked ≡ asked.Nothing → IsBehind (whole_run script s) (run_left script s) s.interned → IsSound script s
+sound_idle script s here few place used good suits memory idle run = record {
   here = here;
   few = few;
   place = place;
@@ -167,6 +170,7 @@ sound_idle script s here few place used good suits memory idle = record {
   suits = suits;
   memory = memory;
   asked = rw idle tt;
+  run = run;
 }
 
 more_names : (live : List (List ℕ × LiveTree)) (n m k : ℕ) → GoodNames live n m → m ≤ k → GoodNames live n k
@@ -176,8 +180,8 @@ commands_same : (script : ScriptLines) (old new : State) → new.number ≡ old.
 commands_same script old new e = rw e refl
 
 pub sound-turned : (script : ScriptLines) (old new : State) → IsSound script old → old.place < length (commands_of script old) → new.number ≡ old.number → new.place ≡ old.place + 1 → new.used ≤ MAX_REPLIES
-    → GoodNames new.space.live new.interned (old.interned + 1) → new.space.book ≡ old.space.book → new.memory ≡ old.memory → new.asked ≡ asked.Nothing → IsSound script new
-sound-turned script old new sound more number place used good book memory idle =
+    → GoodNames new.space.live new.interned (old.interned + 1) → new.space.book ≡ old.space.book → new.memory ≡ old.memory → new.asked ≡ asked.Nothing → IsBehind (whole_run script new) (run_left script new) new.interned → IsSound script new
+sound-turned script old new sound more number place used good book memory idle run =
     sound_idle script new
     (rw number sound.here)
     (rw (commands_same script old new number) sound.few)
@@ -187,6 +191,7 @@ sound-turned script old new sound more number place used good book memory idle =
     (rw (book, number) sound.suits)
     (rw (book, number, memory) sound.memory)
     idle
+    run
 
 -- ---- what is done for a turn
 live_of : (o : Option LiveTree) (n : ℕ) → IsSomeAnd o (λ t. t.number ≡ n) → (t : LiveTree) × (o ≡ Some t) × (t.number ≡ n)
@@ -319,7 +324,8 @@ goes-settled script old new (Ok answer) out change step sound idle more outcome 
           (good-settled (is_short old answer.1) old answer.1 change new step by sound.numbered sound.apart)
           book
           (memory-settled (is_short old answer.1) old answer.1 change new step by)
-          asked;
+          asked
+          (behind-next script old new more turned (interned-settled script old new answer change step outcome says.0 says.2 by) sound.run);
       number = turned.number;
       book = book;
       nearer = near_turned script old new more turned (more-settled (is_short old answer.1) old answer.1 change new step by) asked;
@@ -338,7 +344,7 @@ goes-refused script old new error sound idle more outcome e =
     record {
       said = said-turned script old new more turned;
       takes = quiet_of old new live interned asked;
-      sound = sound-turned script old new sound more turned.number turned.place (rw used sound.used) (good_as old new live interned sound.numbered sound.apart) book (ap (λ (t : State). t.memory) e) asked;
+      sound = sound-turned script old new sound more turned.number turned.place (rw used sound.used) (good_as old new live interned sound.numbered sound.apart) book (ap (λ (t : State). t.memory) e) asked (behind-next script old new more turned (interned-refused script old new error outcome interned) sound.run);
       number = turned.number;
       book = book;
       nearer = near_turned script old new more turned (omega (arith, few)) asked;
@@ -357,8 +363,8 @@ outcome-read script s session line at_session at_line =
     )
 
 -- ---- a tree that is given back at the end
-pub sound-released : (script : ScriptLines) (old new : State) (name : List ℕ) → IsSound script old → old.asked ≡ asked.Nothing → new ≡ record old { space = with_live old.space new.space.live } → Sets old.space.live new.space.live name None → IsSound script new
-sound-released script old new name sound idle e sets =
+pub sound-released : (script : ScriptLines) (old new : State) (name : List ℕ) → IsSound script old → old.asked ≡ asked.Nothing → old.place ≡ length (commands_of script old) → new ≡ record old { space = with_live old.space new.space.live } → Sets old.space.live new.space.live name None → IsSound script new
+sound-released script old new name sound idle last e sets =
     let number : new.number ≡ old.number = ap (λ (t : State). t.number) e in
     let place : new.place ≡ old.place = ap (λ (t : State). t.place) e in
     let interned : new.interned ≡ old.interned = ap (λ (t : State). t.interned) e in
@@ -379,6 +385,7 @@ sound-released script old new name sound idle e sets =
     (rw (book, number) sound.suits)
     (rw (book, number, memory) sound.memory)
     asked
+    (behind-last script old new number place last interned sound.run)
 
 -- ---- a question
 -- the state with another question
@@ -397,6 +404,7 @@ sound-asking script s question sound asks = record {
   suits = sound.suits;
   memory = sound.memory;
   asked = asks;
+  run = sound.run;
 }
 
 -- ---- results
@@ -480,22 +488,24 @@ takes-after script old mid new (Same x y) number live interned t = record {
 takes-after script old mid new (Look id code) number live interned t = record {
   asked = t.asked;
   is = t.is;
+  needed = t.needed;
   live = t.live ∙ live;
   counted = t.counted ∙ interned;
 }
 takes-after script old mid new (Keep id code v) number live interned t = record {
   asked = t.asked;
   is = t.is;
+  needed = t.needed;
   live = t.live ∙ live;
   counted = t.counted ∙ interned;
 }
-takes-after script old mid new (Done reply) number live interned t = (sym live ∙ t.0, t.1, t.2 ∙ interned, t.3)
+takes-after script old mid new (Done reply) number live interned t = (sym live ∙ t.0, t.1, t.2 ∙ interned, t.3, t.4)
 
 -- ---- a state that only says more of memory
 pub asked-failed : (script : ScriptLines) (s : State) (failed : Bool) (question : Asked) → IsAsked script s question → IsAsked script (record s { failed = failed }) question
 asked-failed script s failed asked.Nothing is = tt
 asked-failed script s failed (asked.Same l r) is = is
-asked-failed script s failed asked.Value is = record { here = is.here; work = is.work; held = is.held; reply = is.reply }
+asked-failed script s failed asked.Value is = record { here = is.here; work = is.work; held = is.held; reply = is.reply; needs = is.needs }
 
 pub sound-failed : (script : ScriptLines) (s : State) (failed : Bool) → IsSound script s → IsSound script (record s { failed = failed })
 sound-failed script s failed sound = record {
@@ -509,6 +519,7 @@ sound-failed script s failed sound = record {
   suits = sound.suits;
   memory = sound.memory;
   asked = asked-failed script s failed s.asked sound.asked;
+  run = sound.run;
 }
 
 pub map_on_ok : {T E : Type 0} (P Q : Type 0) (r : Result T E) → (P → Q) → OnOk r P → OnOk r Q
@@ -517,8 +528,8 @@ map_on_ok P Q (Err e) f h = tt
 
 -- ---- the start
 pub sound-start : (script : ScriptLines) (s : State) → All (λ x. length x.commands ≤ MAX_COMMANDS) script.sessions → s.number < length script.sessions → s.place ≡ 0 → s.interned ≡ 0 → s.used ≡ 0
-    → s.space.live ≡ [] → s.space.book ≡ [] → ((ts : List Table) (es : List Series) → IsMemory ts es s.memory) → s.asked ≡ asked.Nothing → IsSound script s
-sound-start script s few here place interned used live book memory idle =
+    → s.space.live ≡ [] → s.space.series ≡ [] → s.space.book ≡ [] → ((ts : List Table) (es : List Series) → IsMemory ts es s.memory) → s.asked ≡ asked.Nothing → IsSound script s
+sound-start script s few here place interned used live series book memory idle =
     sound_idle script s here (few s.number no_session here) (omega (arith, place)) (omega (arith, used))
     (rw (live, interned, place) (record {
       numbered = λ name tree found. let at_none : at name [] ≡ Some tree = found in cc;
@@ -528,6 +539,7 @@ sound-start script s few here place interned used live book memory idle =
     (rw book tt)
     (memory (plain_of script s) s.space.book)
     idle
+    (record { front = []; is = rw (place, used, live, series) refl; trees = interned })
 
 pub said-start : (script : ScriptLines) (s : State) → s.place ≡ 0 → s.used ≡ 0 → s.out ≡ [] → s.space.live ≡ [] → s.space.series ≡ [] → said script s ≡ session_replies script (session_at script s.number)
 said-start script s place used out live series = rw (place, used, out, live, series) refl

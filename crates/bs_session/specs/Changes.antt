@@ -5,13 +5,14 @@
 --   IsApt space c        == a name that is given is free, and one that is dropped is that of a tree; a series that is named is in the book
 --   Says space o old new c == the outcome o is the reply behind the old text, with a change
 --   Asks space o l r     == it is told by the answer to a question about two live trees
---   Begins ts space o p w == it is told by the work w, which is sound and takes at most p turns
---   Carries ts space o p old new w c == the outcome o is what has been carried out
+--   Begins ts space o p ns w == it is told by the work w, which is sound, takes at most p turns and needs the pairs ns at most
+--   Carries ts space o p ns old new w c == the outcome o is what has been carried out
 --   Refuses f o          == the fault is the error that the outcome is; want of memory is free
 --   IsBookOf ts old new  == nothing but the book may have changed: it suits the tableaux as before, and no id has changed
 --
 -- Source: this project.
 use Rattle.std.specs.Prelude.{◌≡◌, ℕ, ◌<◌, ◌≤◌, List, ◌++◌, length, Some, None, IsSome, Result, Ok, Err}
+use Rattle.bs_tree.specs.Tree.{Tree}
 use Rattle.bs_tableau.specs.Table.{Table}
 use Rattle.bs_series.specs.Series.{Series}
 use Rattle.bs_series.specs.Accepted.{Suits}
@@ -20,6 +21,7 @@ use Rattle.bs_session.specs.Names.{at}
 use Rattle.bs_session.specs.Known.{Known, with_tree, without_tree, with_series}
 use Rattle.bs_session.specs.Space.{Space, known_of}
 use Rattle.bs_session.specs.Commands.{Outcome, same_reply}
+use Rattle.bs_session.specs.WorkNeeded.{AreNeeded}
 use Rattle.bs_session.specs.Works.{IsWork, IsHeldWork, whole_reply, work_left}
 use Rattle.bs_session.specs.declared.error.Fault.{Fault}
 use Rattle.bs_session.specs.declared.error.Fault.TheVariants.{Refused, Memory}
@@ -57,16 +59,17 @@ Asks space outcome left right =
     (outcome ≡ Ok (known_of space, same_reply left.code right.code)) × IsLive space left × IsLive space right
 
 -- a reply to come, once coefficients are worked out
-pub record Begins (tables : List Table) (space : Space) (outcome : Outcome) (most : ℕ) (w : Work) : Type 0 where
+pub record Begins (tables : List Table) (space : Space) (outcome : Outcome) (most : ℕ) (ns : List (Series × Tree)) (w : Work) : Type 0 where
   pub is : outcome ≡ Ok (known_of space, whole_reply tables space.book w)
   pub work : IsWork tables space.book w
   pub held : (m : Left) → IsHeldWork space.book m w
   pub left : work_left space.book w ≤ most
+  pub needs : AreNeeded space.book ns w
 
-abbrev pub Carries : List Table → Space → Outcome → ℕ → List ℕ → List ℕ → Work → Carried → Type 0
-Carries tables space outcome most old new w (Replied change) = Says space outcome old new change
-Carries tables space outcome most old new w (Asked left right) = Asks space outcome left right × (new ≡ old)
-Carries tables space outcome most old new w Begun = Begins tables space outcome most w × (new ≡ old)
+abbrev pub Carries : List Table → Space → Outcome → ℕ → List (Series × Tree) → List ℕ → List ℕ → Work → Carried → Type 0
+Carries tables space outcome most ns old new w (Replied change) = Says space outcome old new change
+Carries tables space outcome most ns old new w (Asked left right) = Asks space outcome left right × (new ≡ old)
+Carries tables space outcome most ns old new w Begun = Begins tables space outcome most ns w × (new ≡ old)
 
 abbrev pub Refuses : Fault → Outcome → Type 0
 Refuses (Refused error) outcome = outcome ≡ Err error

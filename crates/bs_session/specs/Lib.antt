@@ -12,9 +12,13 @@ pub mod Commands
 pub mod Replies
 pub mod Behind
 pub mod Works
+pub mod WorkNeeded
 pub mod Toil
+pub mod Needed
 pub mod Space
 pub mod Kinds
 pub mod Changes
 pub mod Machine
 pub mod Turns
+pub mod WorkCounted
+pub mod Counted

@@ -12,6 +12,9 @@
 --   is_yes answer            == the answer is Yes
 --   found_of answer          == the value that is found
 --   Evaluates script s       == the work is sound, and comes to the reply of the command at the place
+--   whole_run, run_left script s == the commands of the session, and those that are left, from the place on
+--   need_here script s       == what the command at the place needs
+--   need_whole script s      == what the session needs
 --   IsSound script s         == what holds between two steps
 --   Takes script old new step == the trees that are live before and after a step, and what the step says of them
 --   left script s            == a number that falls at each step but the last
@@ -19,6 +22,7 @@
 -- Source: this project.
 use Rattle.std.specs.Prelude.{◌≡◌, ◌≢◌, ℕ, ◌+◌, ◌-◌, ◌*◌, ◌<◌, ◌≤◌, Bool, true, false, List, [], ◌∷◌, ◌++◌, length, drop, Option, Some, None, Result, Ok, slice_index_or, slice_get, suc}
 use Rattle.bs_tree.specs.Isomorphic.{isomorphic}
+use Rattle.bs_tree.specs.Tree.{Tree}
 use Rattle.bs_tree.specs.Code.{tree_of}
 use Rattle.bs_tableau.specs.Words.{words}
 use Rattle.bs_script.specs.Blocks.{ScriptLines, SessionLines}
@@ -35,7 +39,9 @@ use Rattle.bs_session.specs.Commands.{Outcome, command}
 use Rattle.bs_session.specs.Replies.{Turn, settled, replies, tables_seen}
 use Rattle.bs_session.specs.Space.{Space, known_of}
 use Rattle.bs_session.specs.Works.{IsWork, IsHeldWork, IsHanded, StepsOn, whole_reply, work_left}
+use Rattle.bs_session.specs.WorkNeeded.{AreNeeded, NeededOn}
 use Rattle.bs_session.specs.Toil.{toil}
+use Rattle.bs_session.specs.Needed.{Ran, run, session_run, session_need, session_trees, need_of, IsBehind}
 use Rattle.bs_session.specs.Changes.{IsLive, Asks}
 use Rattle.bs_session.specs.declared.TheConstants.{MAX_REPLIES}
 use Rattle.bs_session.specs.declared.live.LiveTree.{LiveTree}
@@ -83,6 +89,18 @@ line_at script s = slice_index_or (commands_of script s) s.place []
 abbrev pub outcome_at : ScriptLines → State → Outcome
 outcome_at script s = command (tables_of script s) (known_of s.space) (words (line_at script s))
 
+abbrev pub whole_run : ScriptLines → State → List Ran
+whole_run script s = session_run script (session_at script s.number)
+
+abbrev pub run_left : ScriptLines → State → List Ran
+run_left script s = run (tables_of script s) (known_of s.space) s.used (drop s.place (commands_of script s))
+
+abbrev pub need_here : ScriptLines → State → List (Series × Tree)
+need_here script s = need_of (known_of s.space) (words (line_at script s))
+
+abbrev pub need_whole : ScriptLines → State → List (Series × Tree)
+need_whole script s = session_need script (session_at script s.number)
+
 -- whether two trees are isomorphic
 abbrev pub IsTrueOf : LiveTree → LiveTree → Answer → Type 0
 IsTrueOf left right Go = ⊥
@@ -119,6 +137,7 @@ pub record Evaluates (script : ScriptLines) (s : State) : Type 0 where
   pub work : IsWork (plain_of script s) s.space.book s.work
   pub held : IsHeldWork s.space.book s.memory s.work
   pub reply : outcome_at script s ≡ Ok (known_of s.space, whole_reply (plain_of script s) s.space.book s.work)
+  pub needs : AreNeeded s.space.book (need_here script s) s.work
 
 -- what is asked is the command at the place
 abbrev pub IsAsked : ScriptLines → State → Asked → Type 0
@@ -145,6 +164,7 @@ pub record IsSound (script : ScriptLines) (s : State) : Type 0 where
   pub suits : Suits (plain_of script s) s.space.book
   pub memory : IsMemory (plain_of script s) s.space.book s.memory
   pub asked : IsAsked script s s.asked
+  pub run : IsBehind (whole_run script s) (run_left script s) s.interned
 
 -- whether the answer is yes
 abbrev pub is_yes : Answer → Bool
@@ -209,10 +229,11 @@ pub record Compares (old new : State) (left right : ℕ) : Type 0 where
   pub live : new.space.live ≡ old.space.live
   pub counted : new.interned ≡ old.interned
 
--- a value is looked up or kept
+-- a value is looked up or kept; what is looked up is needed
 pub record Works (script : ScriptLines) (old new : State) (step : Step) : Type 0 where
   pub asked : new.asked ≡ asked.Value
   pub is : StepsOn (plain_of script new) new.space.book new.work step
+  pub needed : NeededOn new.space.book (need_whole script new) step
   pub live : new.space.live ≡ old.space.live
   pub counted : new.interned ≡ old.interned
 
@@ -224,6 +245,7 @@ Takes script old new (Look id code) = Works script old new (Look id code)
 Takes script old new (Keep id code v) = Works script old new (Keep id code v)
 Takes script old new (Done reply) =
     (old.space.live ≡ []) × (new.space.live ≡ []) × (new.interned ≡ old.interned) × (new.asked ≡ asked.Nothing)
+    × (new.interned ≡ session_trees script (session_at script new.number))
 
 -- ---- what is left
 abbrev pub idle : Asked → ℕ

@@ -2,7 +2,7 @@
 --
 --   IsQuiet old new          == commands were carried out that have nothing done by others
 --   fits start s             == with the reply from `start` on the accepted replies are not too long
---   GoesOn ts es old step new m == the work asks this step, and is nearer to the same reply; or it has come to the reply. What the memory
+--   GoesOn ts es old step new m == the work asks this step, needs no more than before, and is nearer to the same reply; or it has come to the reply. What the memory
 --                               m has is right
 --   accepted start s         == the state after this reply is taken, or refused for its length
 --   Applies c old new step   == the change was made, and this is to be done for it
@@ -18,6 +18,7 @@ use Rattle.bs_eval.specs.Values.{IsMemory}
 use Rattle.bs_eval.specs.declared.memory.Memory.{Memory}
 use Rattle.bs_tableau.specs.Table.{Table}
 use Rattle.bs_series.specs.Series.{Series}
+use Rattle.bs_session.specs.WorkNeeded.{KeepsNeed}
 use Rattle.bs_session.specs.Works.{IsWork, IsHeldWork, StepsOn, whole_reply, work_left}
 use Rattle.bs_session.specs.declared.work.Work.{Work}
 use Rattle.bs_session.specs.declared.asked.Asked.TheVariants as asked
@@ -73,6 +74,7 @@ pub record Goes (tables : List Table) (es : List Series) (old : Work) (step : St
   pub held : IsHeldWork es m new
   pub memory : IsMemory tables es m
   pub nearer : work_left es new < work_left es old
+  pub need : KeepsNeed es old new step
 
 abbrev pub GoesOn : List Table → List Series → Work → Option Step → Work → Memory → Type 0
 GoesOn tables es old None new m = (new.draft.items ≡ whole_reply tables es old) × IsMemory tables es m

@@ -7,6 +7,7 @@ ghost use Rattle.bs_session.specs.Known.{Tables, plain};
 ghost use Rattle.bs_session.specs.Space.{known_of};
 ghost use Rattle.bs_session.specs.Commands.{coeff_command, print_command, equal_command};
 ghost use Rattle.bs_session.specs.Toil.{toil_by};
+ghost use Rattle.bs_session.specs.Needed.{need_by};
 ghost use Rattle.bs_session.specs.Changes.{Begins, Refuses};
 ghost use Rattle.bs_session.specs.declared.verb.Verb.TheVariants.{Coeff, Print, Equal};
 
@@ -21,7 +22,7 @@ use bs_tableau::Words;
 
 /// `coeff S T`
 pub(crate) fn coeff(names: &Namespace, words: Words<'_>, work: &mut Work) -> Result<(), Fault>
-    ensures begins { OnOk result ((tables : Tables) → Begins (plain tables) names.now (coeff_command tables (known_of names.now) words.entry) (toil_by (known_of names.now) (Some Coeff) words.entry) work.new) }
+    ensures begins { OnOk result ((tables : Tables) → Begins (plain tables) names.now (coeff_command tables (known_of names.now) words.entry) (toil_by (known_of names.now) (Some Coeff) words.entry) (need_by (known_of names.now) (Some Coeff) words.entry) work.new) }
     ensures refused { IfErr result (λ fault. (tables : Tables) → Refuses fault (coeff_command tables (known_of names.now) words.entry)) }
 {
     let Some((series, tree)) = two(words) else {
@@ -43,7 +44,7 @@ pub(crate) fn coeff(names: &Namespace, words: Words<'_>, work: &mut Work) -> Res
 
 /// `print S P`
 pub(crate) fn print(names: &Namespace, words: Words<'_>, work: &mut Work) -> Result<(), Fault>
-    ensures begins { OnOk result ((tables : Tables) → Begins (plain tables) names.now (print_command tables (known_of names.now) words.entry) (toil_by (known_of names.now) (Some Print) words.entry) work.new) }
+    ensures begins { OnOk result ((tables : Tables) → Begins (plain tables) names.now (print_command tables (known_of names.now) words.entry) (toil_by (known_of names.now) (Some Print) words.entry) (need_by (known_of names.now) (Some Print) words.entry) work.new) }
     ensures refused { IfErr result (λ fault. (tables : Tables) → Refuses fault (print_command tables (known_of names.now) words.entry)) }
 {
     let Some((series, order)) = two(words) else {
@@ -61,7 +62,7 @@ pub(crate) fn print(names: &Namespace, words: Words<'_>, work: &mut Work) -> Res
 
 /// `equal S1 S2 P`
 pub(crate) fn equal(names: &Namespace, words: Words<'_>, work: &mut Work) -> Result<(), Fault>
-    ensures begins { OnOk result ((tables : Tables) → Begins (plain tables) names.now (equal_command tables (known_of names.now) words.entry) (toil_by (known_of names.now) (Some Equal) words.entry) work.new) }
+    ensures begins { OnOk result ((tables : Tables) → Begins (plain tables) names.now (equal_command tables (known_of names.now) words.entry) (toil_by (known_of names.now) (Some Equal) words.entry) (need_by (known_of names.now) (Some Equal) words.entry) work.new) }
     ensures refused { IfErr result (λ fault. (tables : Tables) → Refuses fault (equal_command tables (known_of names.now) words.entry)) }
 {
     let Some((left, right, order)) = three(words) else {

@@ -14,6 +14,7 @@ ghost use Rattle.bs_series.specs.Accepted.{Suits};
 ghost use Rattle.bs_session.specs.Known.{plain};
 ghost use Rattle.bs_session.specs.Space.{known_of};
 ghost use Rattle.bs_session.specs.Toil.{toil_of};
+ghost use Rattle.bs_session.specs.Needed.{need_of};
 ghost use Rattle.bs_session.specs.Changes.{Says, Carries, Asks, Refuses, IsBookOf};
 ghost use Rattle.bs_session.specs.declared.change.Carried.TheVariants.{Replied, Begun};
 ghost use Rattle.bs_session.specs.Errors.{error_of};
@@ -266,7 +267,7 @@ fn partition<'a>(
 }
 
 /// The command of a line. Where it wants coefficients, the work on its reply is begun.
-#[tactic(auto, unfolding(crate::specs::Commands::command, crate::specs::Toil::toil_of))]
+#[tactic(auto, unfolding(crate::specs::Commands::command, crate::specs::Toil::toil_of, crate::specs::Needed::need_of))]
 pub(crate) fn command<'a>(
     tables: &Seen<'_>,
     weights: &mut TableWeights,
@@ -276,7 +277,7 @@ pub(crate) fn command<'a>(
     work: &mut Work,
 ) -> Result<Carried<'a>, Fault>
     requires suits { Suits (plain tables.now) names.old.book }
-    ensures carried { IfOk result (λ carried. Carries (plain tables.now) names.new (command tables.now (known_of names.old) (words line.now)) (toil_of (known_of names.old) (words line.now)) out.old.items out.new.items work.new carried) }
+    ensures carried { IfOk result (λ carried. Carries (plain tables.now) names.new (command tables.now (known_of names.old) (words line.now)) (toil_of (known_of names.old) (words line.now)) (need_of (known_of names.old) (words line.now)) out.old.items out.new.items work.new carried) }
     ensures refused { IfErr result (λ fault. Refuses fault (command tables.now (known_of names.old) (words line.now))) }
     ensures unwritten { OnErr result (out.new.items ≡ out.old.items) }
     ensures book { IsBookOf (plain tables.now) names.old names.new }

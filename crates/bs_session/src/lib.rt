@@ -10,11 +10,7 @@ mod coefficients;
 mod commands;
 mod conditions;
 mod error;
-#[cfg(test)]
-mod item_tests;
 pub mod laws;
-#[cfg(test)]
-mod list_tests;
 mod live;
 #[cfg(test)]
 mod live_tests;
@@ -23,8 +19,6 @@ mod number;
 mod operation;
 mod seen;
 mod series;
-#[cfg(test)]
-mod series_tests;
 mod session;
 mod step;
 mod task;

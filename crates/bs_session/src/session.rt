@@ -1,17 +1,19 @@
 //! The machine.
 
-ghost use Rattle.std.specs.Prelude.{true, ◌≡◌, ◌≢◌, ◌+◌, ◌<◌, ◌≤◌, ◌⊎◌, [], ◌++◌, length, None, Some, IfOk, IfErr, OnOk, OnErr, IsErr, MatchOption};
+ghost use Rattle.std.specs.Prelude.{true, false, ◌≡◌, ◌≢◌, ◌+◌, ◌<◌, ◌≤◌, ◌⊎◌, [], ◌++◌, length, None, Some, IfOk, IfErr, OnOk, OnErr, IsErr, IfSome, IfNone, MatchOption};
 ghost use Rattle.bs_reply.specs.Lines.{same_line, error_line};
 ghost use Rattle.bs_script.specs.declared.TheConstants.{MAX_COMMANDS};
 ghost use Rattle.bs_series.specs.Expressions.{Extends};
 ghost use Rattle.bs_session.specs.Changes.{IsApt, Carries, Refuses, IsBookOf};
+ghost use Rattle.bs_session.specs.Counted.{Counts, IsTame};
+ghost use Rattle.bs_session.specs.WorkCounted.{completed_on, work_begun, work_waiting, work_waited, MovesOn, ApartOn};
 ghost use Rattle.bs_session.specs.Errors.{error_number};
 ghost use Rattle.bs_session.specs.Replies.{session_replies};
 ghost use Rattle.bs_session.specs.Space.{known_of};
 ghost use Rattle.bs_session.specs.Toil.{toil_of};
 ghost use Rattle.bs_session.specs.Works.{IsHanded};
 ghost use Rattle.bs_session.specs.Turns.{IsQuiet, GoesOn, Applies, Settles, fits, accepted};
-ghost use Rattle.bs_session.specs.Machine.{State, said, session_at, commands_of, plain_of, outcome_at, line_at, IsTruthful, is_yes, found_of, IsSound, SaysOn, IsDone, Takes, left};
+ghost use Rattle.bs_session.specs.Machine.{State, said, session_at, commands_of, plain_of, outcome_at, line_at, need_here, IsTruthful, is_yes, found_of, IsSound, SaysOn, IsDone, Takes, left};
 ghost use Rattle.bs_session.specs.declared.asked.Asked.TheVariants as asked;
 ghost use Rattle.bs_tableau.specs.Words.{words};
 
@@ -29,9 +31,12 @@ use bs_eval::{Memory, TableWeights};
 use bs_frac::Coef;
 use bs_reply::{Line, write_line};
 use bs_script::Script;
+use bs_series::Book;
+use bs_steps::Steps;
 use std::alloc::{AllocError, Global};
 use std::marker::Model;
 use std::mem;
+use std::sync::ledger::Ledger;
 
 /// A session that is being carried out.
 #[derive(Drop)]
@@ -114,14 +119,27 @@ impl Session {
         })
     }
 
+    /// The expressions of the session's series, by their ids.
+    pub fn book(&self) -> &Book
+        ensures { result.now ≡ self.now.space.book }
+    {
+        self.names.book()
+    }
+
     /// The next step, after the answer to the last one.
     ///
     /// Once memory ran out, each later call says so.
-    pub fn next(&mut self, script: &Script, answer: Answer) -> Result<Step, AllocError>
-        requires sound { IsSound script.now self.old }
-        requires truthful { IsTruthful script.now self.old answer }
+    pub fn next<L: Ledger>(
+        &mut self,
+        script: &Script,
+        answer: Answer,
+        steps: &mut Steps<L>,
+    ) -> Result<Step, AllocError>
+        requires sound { self.old.failed ≡ false → IsSound script.now self.old }
+        requires truthful { self.old.failed ≡ false → IsTruthful script.now self.old answer }
         ensures said { IfOk result (λ step. SaysOn step (said script.now self.old) (said script.now self.new)) }
         ensures takes { IfOk result (λ step. Takes script.now self.old self.new step) }
+        ensures counts { IfOk result (λ step. Counts self.old self.new (found_of answer) steps.old steps.new (Some step)) }
         ensures sound { OnOk result (IsSound script.now self.new) }
         ensures number { OnOk result (self.new.number ≡ self.old.number) }
         ensures ids_stay { OnOk result (Extends self.old.space.book self.new.space.book) }
@@ -132,33 +150,45 @@ impl Session {
         if self.failed {
             return Err(AllocError);
         }
-        let step = self.try_next(script, answer);
+        let step = self.try_next(script, answer, steps);
         self.failed = step.is_err();
         step
     }
 
-    fn try_next(&mut self, script: &Script, answer: Answer) -> Result<Step, AllocError>
+    fn try_next<L: Ledger>(
+        &mut self,
+        script: &Script,
+        answer: Answer,
+        steps: &mut Steps<L>,
+    ) -> Result<Step, AllocError>
         requires sound { IsSound script.now self.old }
         requires truthful { IsTruthful script.now self.old answer }
         ensures said { IfOk result (λ step. SaysOn step (said script.now self.old) (said script.now self.new)) }
         ensures takes { IfOk result (λ step. Takes script.now self.old self.new step) }
+        ensures counts { IfOk result (λ step. Counts self.old self.new (found_of answer) steps.old steps.new (Some step)) }
         ensures sound { OnOk result (IsSound script.now self.new) }
         ensures number { OnOk result (self.new.number ≡ self.old.number) }
         ensures ids_stay { OnOk result (Extends self.old.space.book self.new.space.book) }
         ensures nearer { IfOk result (λ step. IsDone step ⊎ (left script.now self.new < left script.now self.old)) }
     {
-        match self.take(script, answer)? {
+        match self.take(script, answer, steps)? {
             Some(step) => Ok(step),
-            None => self.go_on(script),
+            None => self.go_on(script, steps),
         }
     }
 
     /// Takes the answer to what was asked, if anything was. Where more is to be asked for the same reply, says what.
-    fn take(&mut self, script: &Script, answer: Answer) -> Result<Option<Step>, AllocError>
+    fn take<L: Ledger>(
+        &mut self,
+        script: &Script,
+        answer: Answer,
+        steps: &mut Steps<L>,
+    ) -> Result<Option<Step>, AllocError>
         requires sound { IsSound script.now self.old }
         requires truthful { IsTruthful script.now self.old answer }
         ensures said { OnOk result (said script.now self.new ≡ said script.now self.old) }
         ensures takes { IfOk result (λ step. MatchOption step (IsQuiet self.old self.new) (λ s. Takes script.now self.old self.new s × (¬ IsDone s))) }
+        ensures counts { IfOk result (λ step. Counts self.old self.new (found_of answer) steps.old steps.new step) }
         ensures sound { OnOk result (IsSound script.now self.new) }
         ensures number { OnOk result (self.new.number ≡ self.old.number) }
         ensures ids_stay { OnOk result (Extends self.old.space.book self.new.space.book) }
@@ -170,16 +200,21 @@ impl Session {
                 self.compared(is_yes(answer))?;
                 Ok(None)
             }
-            Asked::Value => self.evaluate(script, found_of(answer)),
+            Asked::Value => self.evaluate(script, found_of(answer), steps),
         }
     }
 
     /// Carries out the commands from the place on, until there is something to ask.
-    fn go_on(&mut self, script: &Script) -> Result<Step, AllocError>
+    fn go_on<L: Ledger>(
+        &mut self,
+        script: &Script,
+        steps: &mut Steps<L>,
+    ) -> Result<Step, AllocError>
         requires sound { IsSound script.now self.old }
         requires idle { self.old.asked ≡ asked.Nothing }
         ensures said { IfOk result (λ step. SaysOn step (said script.now self.old) (said script.now self.new)) }
         ensures takes { IfOk result (λ step. Takes script.now self.old self.new step) }
+        ensures counts { IfOk result (λ step. Counts self.old self.new None steps.old steps.new (Some step)) }
         ensures sound { OnOk result (IsSound script.now self.new) }
         ensures number { OnOk result (self.new.number ≡ self.old.number) }
         ensures ids_stay { OnOk result (Extends self.old.space.book self.new.space.book) }
@@ -187,7 +222,7 @@ impl Session {
     {
         let count = script.sessions()[self.number].len();
         'turns: while self.place < count {
-            if let Some(step) = self.turn(script)? {
+            if let Some(step) = self.turn(script, steps)? {
                 return Ok(step);
             }
         }
@@ -195,12 +230,17 @@ impl Session {
     }
 
     /// Carries out the command at the place, or asks what its reply wants to know.
-    fn turn(&mut self, script: &Script) -> Result<Option<Step>, AllocError>
+    fn turn<L: Ledger>(
+        &mut self,
+        script: &Script,
+        steps: &mut Steps<L>,
+    ) -> Result<Option<Step>, AllocError>
         requires sound { IsSound script.now self.old }
         requires idle { self.old.asked ≡ asked.Nothing }
         requires more { self.old.place < length (commands_of script.now self.old) }
         ensures said { OnOk result (said script.now self.new ≡ said script.now self.old) }
         ensures takes { IfOk result (λ step. MatchOption step (IsQuiet self.old self.new) (λ s. Takes script.now self.old self.new s × (¬ IsDone s))) }
+        ensures counts { IfOk result (λ step. Counts self.old self.new None steps.old steps.new step) }
         ensures sound { OnOk result (IsSound script.now self.new) }
         ensures number { OnOk result (self.new.number ≡ self.old.number) }
         ensures ids_stay { OnOk result (Extends self.old.space.book self.new.space.book) }
@@ -219,7 +259,7 @@ impl Session {
             }
             Ok(Carried::Begun) => {
                 self.asked = Asked::Value;
-                self.evaluate(script, None)
+                self.evaluate(script, None, steps)
             }
             Err(Fault::Refused(error)) => {
                 self.refuse(error)?;
@@ -240,7 +280,7 @@ impl Session {
     fn carry<'s>(&mut self, script: &'s Script) -> Result<Carried<'s>, Fault>
         requires sound { IsSound script.now self.old }
         requires more { self.old.place < length (commands_of script.now self.old) }
-        ensures carried { IfOk result (λ carried. Carries (plain_of script.now self.old) self.new.space (outcome_at script.now self.old) (toil_of (known_of self.old.space) (words (line_at script.now self.old))) self.old.out self.new.out self.new.work carried) }
+        ensures carried { IfOk result (λ carried. Carries (plain_of script.now self.old) self.new.space (outcome_at script.now self.old) (toil_of (known_of self.old.space) (words (line_at script.now self.old))) (need_here script.now self.old) self.old.out self.new.out self.new.work carried) }
         ensures refused { IfErr result (λ fault. Refuses fault (outcome_at script.now self.old)) }
         ensures book { IsBookOf (plain_of script.now self.old) self.old.space self.new.space }
         ensures rest { self.new ≡ record self.old { out = self.new.out; space = self.new.space; work = self.new.work } }
@@ -262,18 +302,24 @@ impl Session {
     }
 
     /// Goes on with the work on a reply: asks for what it wants, or takes the reply where it is whole.
-    fn evaluate(&mut self, script: &Script, found: Option<Coef>) -> Result<Option<Step>, AllocError>
+    fn evaluate<L: Ledger>(
+        &mut self,
+        script: &Script,
+        found: Option<Coef>,
+        steps: &mut Steps<L>,
+    ) -> Result<Option<Step>, AllocError>
         requires sound { IsSound script.now self.old }
         requires works { self.old.asked ≡ asked.Value }
         requires handed { IsHanded (plain_of script.now self.old) self.old.space.book self.old.work found }
         ensures said { OnOk result (said script.now self.new ≡ said script.now self.old) }
         ensures takes { IfOk result (λ step. MatchOption step (IsQuiet self.old self.new) (λ s. Takes script.now self.old self.new s × (¬ IsDone s))) }
+        ensures counts { IfOk result (λ step. Counts self.old self.new found steps.old steps.new step) }
         ensures sound { OnOk result (IsSound script.now self.new) }
         ensures number { OnOk result (self.new.number ≡ self.old.number) }
         ensures ids_stay { OnOk result (Extends self.old.space.book self.new.space.book) }
         ensures nearer { OnOk result (left script.now self.new < left script.now self.old) }
     {
-        let step = self.work_on(script, found)?;
+        let step = self.work_on(script, found, steps)?;
         if step.is_none() {
             self.worked()?;
         }
@@ -281,18 +327,27 @@ impl Session {
     }
 
     /// Asks what the work on the reply wants to know; nothing where it is at its end.
-    fn work_on(&mut self, script: &Script, found: Option<Coef>) -> Result<Option<Step>, AllocError>
+    fn work_on<L: Ledger>(
+        &mut self,
+        script: &Script,
+        found: Option<Coef>,
+        steps: &mut Steps<L>,
+    ) -> Result<Option<Step>, AllocError>
         requires sound { IsSound script.now self.old }
         requires works { self.old.asked ≡ asked.Value }
         requires handed { IsHanded (plain_of script.now self.old) self.old.space.book self.old.work found }
         ensures goes { IfOk result (λ step. GoesOn (plain_of script.now self.old) self.old.space.book self.old.work step self.new.work self.new.memory) }
+        ensures counted { IfOk result (λ step. steps.new + work_begun self.old.space.book self.old.work ≡ steps.old + (work_begun self.old.space.book self.new.work + completed_on self.old.space.book step)) }
+        ensures moves { IfOk result (λ step. MovesOn (work_waited self.old.work found) step (work_waiting self.new.work)) }
+        ensures apart { IfOk result (λ step. IfSome step (ApartOn (work_waiting self.new.work))) }
+        ensures ended { IfOk result (λ step. IfNone step (work_begun self.old.space.book self.new.work ≡ 0)) }
         ensures rest { self.new ≡ record self.old { work = self.new.work; memory = self.new.memory } }
     {
         let number = self.number;
         let tables = Seen::new(script, script.sessions()[number].above());
         let book = self.names.book();
         self.work
-            .next(book, tables.tables(), &mut self.memory, found)
+            .next(book, tables.tables(), &mut self.memory, found, steps)
     }
 
     /// Takes the reply that is worked out.
@@ -403,6 +458,7 @@ impl Session {
         requires last { self.old.place ≡ length (commands_of script.now self.old) }
         ensures said { SaysOn result (said script.now self.old) (said script.now self.new) }
         ensures takes { Takes script.now self.old self.new result }
+        ensures tame { IsTame result }
         ensures sound { IsSound script.now self.new }
         ensures number { self.new.number ≡ self.old.number }
         ensures ids_stay { Extends self.old.space.book self.new.space.book }

@@ -7,6 +7,9 @@ ghost use Rattle.bs_series.specs.Expressions.{series_at};
 ghost use Rattle.bs_reply.specs.Lines.{line_text};
 ghost use Rattle.bs_eval.specs.Pairs.{value_at_pair};
 ghost use Rattle.bs_session.specs.SeriesReplies.{term_at, difference, compared_over};
+ghost use Rattle.std.specs.List.{AllByRecursion};
+ghost use Rattle.bs_tree.specs.Tree.{Tree};
+ghost use Rattle.bs_session.specs.WorkNeeded.{IsWanted, AreBothWanted, NeedsBehind, NeedsNext};
 ghost use Rattle.bs_session.specs.Works.{pair_of, to_come, to_come_next, turns_behind, next_left, one_more, both_more, IsOver, IsTask, IsNext};
 
 use crate::up_to::UpTo;
@@ -65,6 +68,7 @@ impl Task {
         ensures told { (tables : List Table) (es : List Series) → to_come_next tables es result ≡ flat_map (term_at tables (series_at es series)) behind.left }
         ensures sound { (es : List Series) → IsOver es series behind.colours → IsNext es result }
         ensures nearer { (es : List Series) → next_left es result ≤ sum_by (one_more (series_at es series)) behind.left }
+        ensures needs { (es : List Series) (ns : List (Series × Tree)) → AllByRecursion (IsWanted es ns series) behind.left → NeedsNext es ns result }
     {
         match behind.next() {
             None => None,
@@ -86,6 +90,7 @@ impl Task {
         ensures told { (tables : List Table) (es : List Series) → IfOk result (λ next. draft.new.items ++ to_come_next tables es next ≡ draft.old.items ++ compared_over tables (series_at es left) (series_at es right) behind.left) }
         ensures sound { (es : List Series) → IsOver es left behind.colours → IsOver es right behind.colours → IfOk result (λ next. IsNext es next) }
         ensures nearer { (es : List Series) → IfOk result (λ next. next_left es next ≤ sum_by (both_more (series_at es left) (series_at es right)) behind.left) }
+        ensures needs { (es : List Series) (ns : List (Series × Tree)) → AllByRecursion (AreBothWanted es ns left right) behind.left → IfOk result (λ next. NeedsNext es ns next) }
     {
         match behind.next() {
             None => {
@@ -106,6 +111,7 @@ impl Task {
         ensures told { (tables : List Table) (es : List Series) → coef ≡ value_at_pair tables es (pair_of self) → IfOk result (λ next. draft.new.items ++ to_come_next tables es next ≡ draft.old.items ++ to_come tables es self) }
         ensures sound { (es : List Series) → IsTask es self → IfOk result (λ next. IsNext es next) }
         ensures nearer { (es : List Series) → IfOk result (λ next. next_left es next ≤ turns_behind es self) }
+        ensures needs { (es : List Series) (ns : List (Series × Tree)) → NeedsBehind es ns self → IfOk result (λ next. NeedsNext es ns next) }
     {
         match self {
             Task::Coeff { .. } => {

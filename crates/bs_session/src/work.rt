@@ -1,9 +1,8 @@
 //! The work on a reply that wants coefficients.
 //!
-//! It evaluates one coefficient after another over the memory of the session, and hands each to its task, which writes the reply. Nobody counts the steps of the
-//! walks of an evaluation, so their ledger is a brand.
+//! It evaluates one coefficient after another over the memory of the session, and hands each to its task, which writes the reply.
 
-ghost use Rattle.std.specs.Prelude.{◌≡◌, ◌<◌, ◌≤◌, ◌++◌, suc, List, [], None, length, IfOk, IfSome, IfNone, OnOk, IsSome};
+ghost use Rattle.std.specs.Prelude.{◌≡◌, ◌<◌, ◌≤◌, ◌++◌, ◌+◌, suc, List, [], None, length, IfOk, IfSome, IfNone, OnOk, IsSome};
 ghost use Rattle.bs_enum.specs.AllTrees.{trees_to};
 ghost use Rattle.bs_tableau.specs.Table.{Table};
 ghost use Rattle.bs_series.specs.Series.{Series, colours_of};
@@ -16,6 +15,10 @@ ghost use Rattle.bs_eval.specs.declared.memory.Memory.{Memory as Left};
 ghost use Rattle.bs_eval.specs.Turns.{turns};
 ghost use Rattle.bs_reply.specs.Lines.{coeff_line};
 ghost use Rattle.bs_session.specs.SeriesReplies.{print_reply, equal_reply};
+ghost use Rattle.bs_tree.specs.Tree.{Tree};
+ghost use Rattle.bs_session.specs.Needed.{need_at, need_to_print, need_to_compare};
+ghost use Rattle.bs_session.specs.WorkNeeded.{NeedsNext, NeedsBehind, NeedsJob, AreNeeded, NeedsNoMore, KeepsNeed};
+ghost use Rattle.bs_session.specs.WorkCounted.{completed_on, job_begun, job_waiting, job_waited, work_begun, work_waiting, work_waited, MovesOn, ApartOn};
 ghost use Rattle.bs_session.specs.Works.{to_come_next, to_come_of, whole_reply, next_left, job_left, work_left, turns_to_print, turns_to_compare, HasColoured, IsNext, IsJob, IsWork, IsHeldJob, IsHeldWork, IsHanded, IsTask, StepsOn, pair_of, turns_behind};
 
 use crate::MAX_CONDITIONS;
@@ -31,8 +34,7 @@ use bs_steps::Steps;
 use bs_tableau::Tableau;
 use bs_tree::{Code, MAX_NODES};
 use std::alloc::{AllocError, Global};
-use std::marker::Brand;
-use std::sync::ledger::{Blank, Ledger};
+use std::sync::ledger::Ledger;
 
 /// An evaluation, and the task that awaits its value.
 #[derive(Drop)]
@@ -54,7 +56,11 @@ fn job_of(alloc: Global, next: Option<Task>) -> Option<Job>
     ensures told { (tables : List Table) (es : List Series) → to_come_of tables es result ≡ to_come_next tables es next }
     ensures sound { (tables : List Table) (es : List Series) → IsNext es next → IsJob tables es result }
     ensures held { (es : List Series) (m : Left) → IsHeldJob es m result }
+    ensures begun { (es : List Series) → job_begun es result ≡ 0 }
+    ensures waits { job_waiting result ≡ [] }
+    ensures idle { job_waited result None ≡ [] }
     ensures left { (es : List Series) → job_left es result ≡ next_left es next }
+    ensures needs { (es : List Series) (ns : List (Series × Tree)) → NeedsNext es ns next → NeedsJob es ns result }
 {
     match next {
         None => None,
@@ -105,6 +111,7 @@ impl Work {
         ensures work { (tables : List Table) → IsWork tables book.now self.new }
         ensures held { (es : List Series) (m : Left) → IsHeldWork es m self.new }
         ensures nearer { work_left book.now self.new ≤ suc (turns (series_at book.now series) code) }
+        ensures needs { AreNeeded book.now (need_at (series_at book.now series) code) self.new }
     {
         self.clear();
         self.job = job_of(self.alloc, Some(Task::Coeff { series, code }));
@@ -124,6 +131,7 @@ impl Work {
         ensures work { (tables : List Table) → OnOk result (IsWork tables book.now self.new) }
         ensures held { (es : List Series) (m : Left) → OnOk result (IsHeldWork es m self.new) }
         ensures nearer { OnOk result (work_left book.now self.new ≤ turns_to_print (series_at book.now series) order) }
+        ensures needs { OnOk result (AreNeeded book.now (need_to_print (series_at book.now series) order) self.new) }
     {
         let colours = usize::from(book.colours(series));
         let number = count_to(order, colours, MAX_CONDITIONS);
@@ -151,6 +159,7 @@ impl Work {
         ensures work { (tables : List Table) → OnOk result (IsWork tables book.now self.new) }
         ensures held { (es : List Series) (m : Left) → OnOk result (IsHeldWork es m self.new) }
         ensures nearer { OnOk result (work_left book.now self.new ≤ turns_to_compare (series_at book.now left) (series_at book.now right) order) }
+        ensures needs { OnOk result (AreNeeded book.now (need_to_compare (series_at book.now left) (series_at book.now right) order) self.new) }
     {
         let first = book.empty_value(left);
         let second = book.empty_value(right);
@@ -171,41 +180,14 @@ impl Work {
     }
 
     /// Goes on until something is to be asked. `None` where the reply is whole. Where memory runs out the work is of no use.
-    pub(crate) fn next(
-        &mut self,
-        book: &Book,
-        tables: &[Tableau],
-        memory: &mut Memory,
-        found: Option<Coef>,
-    ) -> Result<Option<Step>, AllocError>
-        requires suits { Suits tables.now book.now }
-        requires work { IsWork tables.now book.now self.old }
-        requires held { IsHeldWork book.now memory.old self.old }
-        requires memory { IsMemory tables.now book.now memory.old }
-        requires handed { IsHanded tables.now book.now self.old found }
-        ensures reply { OnOk result (whole_reply tables.now book.now self.new ≡ whole_reply tables.now book.now self.old) }
-        ensures work { OnOk result (IsWork tables.now book.now self.new) }
-        ensures held { OnOk result (IsHeldWork book.now memory.new self.new) }
-        ensures memory { IsMemory tables.now book.now memory.new }
-        ensures steps { IfOk result (λ step. IfSome step (StepsOn tables.now book.now self.new)) }
-        ensures nearer { IfOk result (λ step. IfSome step (λ _. work_left book.now self.new < work_left book.now self.old)) }
-        ensures whole { IfOk result (λ step. IfNone step (self.new.draft.items ≡ whole_reply tables.now book.now self.old)) }
-    {
-        self.go_on::<Brand>(book, tables, memory, found, Blank::new(1))
-    }
-
-    /// One coefficient after another, until something is to be asked.
-    fn go_on<L: Ledger>(
+    pub(crate) fn next<L: Ledger>(
         &mut self,
         book: &Book,
         tables: &[Tableau],
         memory: &mut Memory,
         mut found: Option<Coef>,
-        blank: Blank,
+        steps: &mut Steps<L>,
     ) -> Result<Option<Step>, AllocError>
-        requires name { blank.name ≡ L.name }
-        requires parts { blank.parts ≡ L.parts }
-        requires some { 0 < blank.parts }
         requires suits { Suits tables.now book.now }
         requires work { IsWork tables.now book.now self.old }
         requires held { IsHeldWork book.now memory.old self.old }
@@ -216,12 +198,16 @@ impl Work {
         ensures held { OnOk result (IsHeldWork book.now memory.new self.new) }
         ensures memory { IsMemory tables.now book.now memory.new }
         ensures steps { IfOk result (λ step. IfSome step (StepsOn tables.now book.now self.new)) }
+        ensures counted { IfOk result (λ step. steps.new + work_begun book.now self.old ≡ steps.old + (work_begun book.now self.new + completed_on book.now step)) }
+        ensures moves { IfOk result (λ step. MovesOn (work_waited self.old found) step (work_waiting self.new)) }
+        ensures apart { IfOk result (λ step. IfSome step (ApartOn (work_waiting self.new))) }
         ensures nearer { IfOk result (λ step. IfSome step (λ _. work_left book.now self.new < work_left book.now self.old)) }
+        ensures need { IfOk result (λ step. IfSome step (KeepsNeed book.now self.old self.new)) }
+        ensures ended { IfOk result (λ step. IfNone step (work_begun book.now self.new ≡ 0)) }
         ensures whole { IfOk result (λ step. IfNone step (self.new.draft.items ≡ whole_reply tables.now book.now self.old)) }
     {
-        let mut steps = Steps::<L>::new(blank);
         'coefficients: while self.job.is_some() {
-            if let Some(step) = self.turn(book, tables, memory, found, &mut steps)? {
+            if let Some(step) = self.turn(book, tables, memory, found, steps)? {
                 return Ok(Some(step));
             }
             found = None;
@@ -250,7 +236,13 @@ impl Work {
         ensures held { OnOk result (IsHeldWork book.now memory.new self.new) }
         ensures memory { IsMemory tables.now book.now memory.new }
         ensures steps { IfOk result (λ step. IfSome step (StepsOn tables.now book.now self.new)) }
+        ensures counted { IfOk result (λ step. steps.new + work_begun book.now self.old ≡ steps.old + (work_begun book.now self.new + completed_on book.now step)) }
+        ensures moves { IfOk result (λ step. MovesOn (work_waited self.old found) step (work_waiting self.new)) }
+        ensures apart { IfOk result (λ step. IfSome step (ApartOn (work_waiting self.new))) }
+        ensures idle { IfOk result (λ step. IfNone step (work_waited self.new None ≡ [])) }
         ensures nearer { OnOk result (work_left book.now self.new < work_left book.now self.old) }
+        ensures need { IfOk result (λ step. IfSome step (KeepsNeed book.now self.old self.new)) }
+        ensures needs { IfOk result (λ step. IfNone step (NeedsNoMore book.now self.old self.new)) }
     {
         match &mut self.job {
             None => Ok(None),
@@ -270,7 +262,11 @@ impl Work {
         ensures reply { (tables : List Table) (es : List Series) → IfSome self.old.job (λ job. coef ≡ value_at_pair tables es (pair_of job.task)) → OnOk result (whole_reply tables es self.new ≡ whole_reply tables es self.old) }
         ensures work { (tables : List Table) (es : List Series) → IfSome self.old.job (λ job. IsTask es job.task) → OnOk result (IsWork tables es self.new) }
         ensures held { (es : List Series) (m : Left) → OnOk result (IsHeldWork es m self.new) }
+        ensures begun { (es : List Series) → OnOk result (work_begun es self.new ≡ 0) }
+        ensures waits { OnOk result (work_waiting self.new ≡ []) }
+        ensures idle { OnOk result (work_waited self.new None ≡ []) }
         ensures nearer { (es : List Series) → IfSome self.old.job (λ job. OnOk result (work_left es self.new ≤ turns_behind es job.task)) }
+        ensures needs { (es : List Series) (ns : List (Series × Tree)) → IfSome self.old.job (λ job. NeedsBehind es ns job.task) → OnOk result (AreNeeded es ns self.new) }
     {
         let Some(job) = self.job.take() else {
             return Ok(());

@@ -1,18 +1,22 @@
 use Rattle.std.proofs.Common.{◌≡◌}
-use Rattle.bs_session.specs.Machine.{session_at, plain_of, said, left, IsSound, IsTruthful}
+use Rattle.bs_session.specs.Machine.{session_at, plain_of, found_of, said, left, IsSound, IsTruthful}
 use Rattle.bs_session.specs.Replies.{session_replies}
+use Rattle.bs_session.specs.Needed.{session_need}
 use Rattle.bs_alone.specs.Fits.{Fits}
 use Rattle.bs_drive.specs.Alone.{AreKept}
+use Rattle.bs_drive.specs.Once.{IsOnce}
 use Rattle.bs_drive.proofs.alone.run_session_alone.Given as goal
 
 abbrev pub invariant-steps : goal.invariant-steps
-invariant-steps l = record {
+invariant-steps g l = record {
   sound : IsSound l.script l.session;
   truthful : IsTruthful l.script l.session l.given;
   said : said l.script l.session ≡ session_replies l.script (session_at l.script l.number);
   kept : AreKept l.codes.items l.session;
   fits : Fits (plain_of l.script l.session) l.session.space.book l.sheet;
+  number : l.session.number ≡ l.number;
+  once : IsOnce (session_need l.script (session_at l.script l.number)) l.session (found_of l.given) l.sheet l.fn.steps l.steps;
 }
 
 abbrev pub decreases-steps : goal.decreases-steps
-decreases-steps l = left l.script l.session
+decreases-steps g l = left l.script l.session

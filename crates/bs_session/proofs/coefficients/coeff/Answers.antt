@@ -5,6 +5,8 @@ use Rattle.bs_series.specs.Series.{Series, colours_of}
 use Rattle.bs_series.specs.SeriesCode.{written_at}
 use Rattle.bs_series.specs.Expressions.{series_at}
 use Rattle.bs_session.specs.Commands.{has_colours}
+use Rattle.bs_session.specs.Needed.{need_at}
+use Rattle.bs_session.specs.WorkNeeded.{AreNeeded}
 use Rattle.bs_session.specs.Works.{IsWork, whole_reply, work_left}
 use Rattle.bs_session.proofs.Begun.{coeff-begins}
 use Rattle.bs_session.proofs.coefficients.coeff.Goals as goal
@@ -25,3 +27,4 @@ returns-clause-begins c = λ tables.
     (λ ts. subst (λ (es : List Series). IsWork ts es w) book (c.coeff.ensures.work ts))
     (λ m. c.coeff.ensures.held space.book m)
     (subst (λ (es : List Series). work_left es w ≤ suc (turns (series_at es id) tree.code)) book c.coeff.ensures.nearer)
+    (subst (λ (es : List Series). AreNeeded es (need_at (series_at es id) tree.code) w) book c.coeff.ensures.needs)

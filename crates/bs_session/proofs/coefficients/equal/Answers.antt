@@ -3,6 +3,8 @@ use Rattle.bs_series.specs.Series.{Series, colours_of}
 use Rattle.bs_series.specs.Expressions.{series_at}
 use Rattle.bs_session.specs.Asked.{order_to, order_shared}
 use Rattle.bs_session.specs.SeriesReplies.{equal_reply}
+use Rattle.bs_session.specs.Needed.{need_to_compare}
+use Rattle.bs_session.specs.WorkNeeded.{AreNeeded}
 use Rattle.bs_session.specs.Works.{IsWork, whole_reply, work_left, turns_to_compare}
 use Rattle.bs_session.specs.declared.TheConstants.{MAX_CONDITIONS}
 use Rattle.bs_session.proofs.Begun.{equal-begins}
@@ -26,3 +28,4 @@ returns-in_ok-equal-in-Ok-clause-begins c = λ tables.
     (λ ts. subst (λ (es : List Series). IsWork ts es w) book (done.work ts))
     (λ m. done.held space.book m)
     (subst (λ (es : List Series). work_left es w ≤ turns_to_compare (series_at es i) (series_at es j) p) book done.nearer)
+    (subst (λ (es : List Series). AreNeeded es (need_to_compare (series_at es i) (series_at es j) p) w) book done.needs)

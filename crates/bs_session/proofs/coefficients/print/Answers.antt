@@ -3,6 +3,8 @@ use Rattle.bs_series.specs.Series.{Series, colours_of}
 use Rattle.bs_series.specs.Expressions.{series_at}
 use Rattle.bs_session.specs.Asked.{order_to, order_asked}
 use Rattle.bs_session.specs.SeriesReplies.{print_reply}
+use Rattle.bs_session.specs.Needed.{need_to_print}
+use Rattle.bs_session.specs.WorkNeeded.{AreNeeded}
 use Rattle.bs_session.specs.Works.{IsWork, whole_reply, work_left, turns_to_print}
 use Rattle.bs_session.specs.declared.TheConstants.{MAX_CONDITIONS}
 use Rattle.bs_session.proofs.Begun.{print-begins}
@@ -24,3 +26,4 @@ returns-in_ok-print-in-Ok-clause-begins c = λ tables.
     (λ ts. subst (λ (es : List Series). IsWork ts es w) book (done.work ts))
     (λ m. done.held space.book m)
     (subst (λ (es : List Series). work_left es w ≤ turns_to_print (series_at es id) p) book done.nearer)
+    (subst (λ (es : List Series). AreNeeded es (need_to_print (series_at es id) p) w) book done.needs)

@@ -1,4 +1,4 @@
-use Rattle.std.proofs.Common.{◌≡◌, ℕ, ◌+◌, ◌<◌, List, ◌++◌, arith, IfOk, Ok, Err, length, refl, sym, ◌∙◌, ap, subst, OnOk}
+use Rattle.std.proofs.Common.{◌≡◌, ℕ, ◌+◌, ◌<◌, List, ◌++◌, arith, IfOk, Ok, Err, length, None, refl, sym, ◌∙◌, ap, subst, OnOk}
 use Rattle.bs_reply.specs.Lines.{error_line}
 use Rattle.bs_tableau.specs.Words.{words}
 use Rattle.bs_script.specs.Blocks.{ScriptLines}
@@ -7,7 +7,7 @@ use Rattle.bs_session.specs.Space.{known_of}
 use Rattle.bs_session.specs.Toil.{toil_of}
 use Rattle.bs_session.specs.Changes.{Says, Begins, Asks, IsBookOf}
 use Rattle.bs_session.specs.Commands.{Outcome}
-use Rattle.bs_session.specs.Machine.{State, commands_of, outcome_at, line_at, plain_of, IsSound}
+use Rattle.bs_session.specs.Machine.{State, commands_of, outcome_at, line_at, need_here, plain_of, IsSound}
 use Rattle.bs_session.specs.Turns.{Settles}
 use Rattle.bs_session.specs.declared.asked.Asked.TheVariants as asked
 use Rattle.bs_session.specs.declared.live.LiveTree.{LiveTree}
@@ -15,10 +15,13 @@ use Rattle.bs_session.specs.declared.step.Step.{Step}
 use Rattle.bs_session.specs.declared.change.Change.{Change}
 use Rattle.bs_session.proofs.Settled.{goes-settled, goes-refused, asking, sound-asking, map_ok, map_on_ok}
 use Rattle.bs_session.proofs.Goes.{GoesFrom, Alike, takes-alike, goes-from, goes-alike, grown, sound-grown, alike-grown, known-grown, begun, sound-begun, alike-begun}
+use Rattle.bs_session.specs.Counted.{Counts}
+use Rattle.bs_session.proofs.Counting.{begun_counts, idle_work}
+use Rattle.bs_session.proofs.session.Session.turn.Given.{Over}
 use Rattle.bs_session.proofs.session.Session.turn.Goals as goal
 
-goes : (c : goal.After-settle) → IfOk c.settle.result (λ step. GoesFrom c.args.script.now c.args.self.now c.settle.new.self step)
-goes c =
+goes : (g : Over) (c : goal.After-settle g) → IfOk c.settle.result (λ step. GoesFrom c.args.script.now c.args.self.now c.settle.new.self step)
+goes g c =
     let script = c.args.script.now in
     let old = c.args.self.now in
     let mid = c.carry.new.self in
@@ -41,20 +44,20 @@ goes c =
     c.settle.ensures.settles
 
 pub returns-in-Ok-Replied-clause-said : goal.returns-in-Ok-Replied-clause-said
-returns-in-Ok-Replied-clause-said c = map_ok _ _ c.settle.result (λ step g. g.said) (goes c)
+returns-in-Ok-Replied-clause-said g c = map_ok _ _ c.settle.result (λ step g. g.said) (goes g c)
 
 pub returns-in-Ok-Replied-clause-takes : goal.returns-in-Ok-Replied-clause-takes
-returns-in-Ok-Replied-clause-takes c = map_ok _ _ c.settle.result (λ step g. g.takes) (goes c)
+returns-in-Ok-Replied-clause-takes g c = map_ok _ _ c.settle.result (λ step g. g.takes) (goes g c)
 
 pub returns-in-Ok-Replied-clause-sound : goal.returns-in-Ok-Replied-clause-sound
-returns-in-Ok-Replied-clause-sound c = map_ok _ _ c.settle.result (λ step g. g.sound) (goes c)
+returns-in-Ok-Replied-clause-sound g c = map_ok _ _ c.settle.result (λ step g. g.sound) (goes g c)
 
 pub returns-in-Ok-Replied-clause-nearer : goal.returns-in-Ok-Replied-clause-nearer
-returns-in-Ok-Replied-clause-nearer c = map_ok _ _ c.settle.result (λ step g. g.nearer) (goes c)
+returns-in-Ok-Replied-clause-nearer g c = map_ok _ _ c.settle.result (λ step g. g.nearer) (goes g c)
 
 pub returns-in_ok-refuse-in-Err-Refused-clause-sound :
     goal.returns-in_ok-refuse-in-Err-Refused-clause-sound
-returns-in_ok-refuse-in-Err-Refused-clause-sound c =
+returns-in_ok-refuse-in-Err-Refused-clause-sound g c =
     let script = c.args.script.now in
     let old = c.args.self.now in
     let mid = c.carry.new.self in
@@ -72,7 +75,7 @@ returns-in_ok-refuse-in-Err-Refused-clause-sound c =
 -- ---- work that is begun
 module _ (script : ScriptLines) (old mid : State) (idle : old.asked ≡ asked.Nothing) (more : old.place < length (commands_of script old))
     (rest : mid ≡ record old { out = mid.out; space = mid.space; work = mid.work }) (book : IsBookOf (plain_of script old) old.space mid.space)
-    (carried : Begins (plain_of script old) mid.space (outcome_at script old) (toil_of (known_of old.space) (words (line_at script old))) mid.work × (mid.out ≡ old.out)) where
+    (carried : Begins (plain_of script old) mid.space (outcome_at script old) (toil_of (known_of old.space) (words (line_at script old))) (need_here script old) mid.work × (mid.out ≡ old.out)) where
   same_begun : mid ≡ grown old mid.space mid.work
   same_begun = rest ∙ ap (λ (o : List ℕ). let s : State = record old { out = o; space = mid.space; work = mid.work } in s) carried.1
 
@@ -83,14 +86,14 @@ module _ (script : ScriptLines) (old mid : State) (idle : old.asked ≡ asked.No
   mid_alike = subst (λ (s : State). Alike script old (asking s asked.Value)) (sym same_begun) (alike-begun script old mid.space mid.work idle more book carried.0.left)
 
 pub evaluate-requires-clause-sound : goal.evaluate-requires-clause-sound
-evaluate-requires-clause-sound c =
+evaluate-requires-clause-sound g c =
     let e = c.in-Ok-Begun.ensures in
     let carried = rw c.in-Ok-Begun.field-0-is at e.carried in
     subst (λ (s : State). IsSound c.args.script.now (asking s asked.Value)) (sym c.self-in-Ok-Begun.view_is)
     (mid_sound c.args.script.now c.args.self.now c.carry.new.self c.requires.idle c.requires.more e.rest e.book carried c.requires.sound)
 
 pub returns-in-Ok-Begun-clause-takes : goal.returns-in-Ok-Begun-clause-takes
-returns-in-Ok-Begun-clause-takes c =
+returns-in-Ok-Begun-clause-takes g c =
     let e = c.in-Ok-Begun.ensures in
     let carried = rw c.in-Ok-Begun.field-0-is at e.carried in
     let alike = subst (λ (s : State). Alike c.args.script.now c.args.self.now (asking s asked.Value)) (sym c.self-in-Ok-Begun.view_is)
@@ -98,7 +101,7 @@ returns-in-Ok-Begun-clause-takes c =
     map_ok _ _ c.evaluate.result (λ step t. takes-alike c.args.script.now c.args.self.now _ _ step alike t) c.evaluate.ensures.takes
 
 pub returns-in-Ok-Begun-clause-nearer : goal.returns-in-Ok-Begun-clause-nearer
-returns-in-Ok-Begun-clause-nearer c =
+returns-in-Ok-Begun-clause-nearer g c =
     let e = c.in-Ok-Begun.ensures in
     let carried = rw c.in-Ok-Begun.field-0-is at e.carried in
     let alike = subst (λ (s : State). Alike c.args.script.now c.args.self.now (asking s asked.Value)) (sym c.self-in-Ok-Begun.view_is)
@@ -118,8 +121,20 @@ asked_sound script old mid l r idle more rest book carried sound =
     (sound-asking script before (asked.Same l r) (sound-grown script old mid.space mid.work sound idle book) (more, asks))
 
 pub returns-in-Ok-Asked-clause-sound : goal.returns-in-Ok-Asked-clause-sound
-returns-in-Ok-Asked-clause-sound c =
+returns-in-Ok-Asked-clause-sound g c =
     let e = c.in-Ok-Asked.ensures in
     let carried = rw c.in-Ok-Asked.field-0-is at e.carried in
     subst (λ (s : State). IsSound c.args.script.now (asking s (asked.Same c.in-Ok-Asked.left c.in-Ok-Asked.right))) (sym c.self.view_is)
     (asked_sound c.args.script.now c.args.self.now c.carry.new.self c.in-Ok-Asked.left c.in-Ok-Asked.right c.requires.idle c.requires.more e.rest e.book carried c.requires.sound)
+
+pub returns-in-Ok-Begun-clause-counts : goal.returns-in-Ok-Begun-clause-counts
+returns-in-Ok-Begun-clause-counts g c =
+    let old = c.args.self.now in
+    let mid = c.carry.new.self in
+    let m = c.args.steps.now in
+    let n = c.evaluate.new.steps in
+    let e = c.in-Ok-Begun.ensures in
+    let carried = rw c.in-Ok-Begun.field-0-is at e.carried in
+    map_ok _ (λ step. Counts old c.evaluate.new.self None m n step) c.evaluate.result
+    (λ step k. begun_counts old (asking mid asked.Value) c.evaluate.new.self m n step c.requires.idle refl (idle_work mid.space.book mid.memory mid.work carried.0.held)
+    (subst (λ (s : State). Counts (asking s asked.Value) c.evaluate.new.self None m n step) c.self-in-Ok-Begun.view_is k)) c.evaluate.ensures.counts
