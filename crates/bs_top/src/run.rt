@@ -4,7 +4,7 @@ ghost use Rattle.std.specs.Prelude.{◌≡◌, ◌≢◌, ◌↔◌, ℕ, ◌+�
 ghost use Rattle.bs_io.specs.Outside.{Rose, NoFault, TakesExactly, TakesAtMost, Adds, AddsFront};
 ghost use Rattle.bs_top.specs.ErrorLines.{error_line};
 ghost use Rattle.bs_top.specs.Output.{text_of};
-ghost use Rattle.bs_top.specs.Run.{ReadsAs, IsFlushed, Reports};
+ghost use Rattle.bs_top.specs.Run.{IsFlushed, IsRun, Reports};
 ghost use Rattle.bs_script.specs.declared.reason.Reason.{Reason};
 
 use crate::status::Status;
@@ -33,43 +33,9 @@ pub fn run_alone<S: Source, K: Sink, E: Sink>(
     ensures usage { (result ≡ Status.Usage) ↔ (0 < length words.now) }
     ensures usage_source { result ≡ Status.Usage → source.new ≡ source.old }
 
-    // What each status says of the bytes that were read and written.
-    ensures done { result ≡ Status.Done → (text : List ℕ)
-        × ReadsAs (S.left source.old) (S.left source.new) (Ok text)
-        × Adds (K.written sink.old) text (K.written sink.new) }
-    ensures done_flushed { result ≡ Status.Done → IsFlushed (K.written sink.new) (K.flushed sink.new) }
-    ensures refused { (line : ℕ) (reason : Reason) → result ≡ Status.Refused line reason
-        → ReadsAs (S.left source.old) (S.left source.new) (Err (line, reason)) }
-    ensures write_fault_front { result ≡ Status.WriteFault → (text : List ℕ)
-        × ReadsAs (S.left source.old) (S.left source.new) (Ok text)
-        × AddsFront (K.written sink.old) text (K.written sink.new) }
-    ensures write_fault_unflushed { result ≡ Status.WriteFault → K.flushed sink.new ≡ K.flushed sink.old }
-    ensures too_long { result ≡ Status.TooLong
-        → TakesExactly (S.left source.old) (INPUT_LIMIT + 1) (S.left source.new) }
-    ensures within_limit { result ≢ Status.TooLong
-        → TakesAtMost (S.left source.old) INPUT_LIMIT (S.left source.new) }
-    ensures unwritten { (result ≡ Status.Done) ⊎ (result ≡ Status.WriteFault) ⊎ (sink.new ≡ sink.old) }
-
-    // No fault is swallowed.
-    ensures read_fault { result ≡ Status.ReadFault → Rose (S.faults source.old) (S.faults source.new) }
-    ensures read_calm { result ≢ Status.ReadFault → S.faults source.new ≡ S.faults source.old }
-    ensures write_fault { result ≡ Status.WriteFault → Rose (K.faults sink.old) (K.faults sink.new) }
-    ensures write_calm { result ≢ Status.WriteFault → K.faults sink.new ≡ K.faults sink.old }
-
-    // Which status comes where no fault does; want of memory alone is free.
-    ensures complete { (input text : List ℕ) → length words.now ≡ 0
-        → S.left source.old ≡ Some input → length input ≤ INPUT_LIMIT → text_of input ≡ Ok text
-        → NoFault (S.faults source.old) (S.faults source.new)
-        → NoFault (K.faults sink.old) (K.faults sink.new)
-        → (result ≡ Status.Done) ⊎ (result ≡ Status.NoMemory) }
-    ensures refuses { (input : List ℕ) (line : ℕ) (reason : Reason) → length words.now ≡ 0
-        → S.left source.old ≡ Some input → length input ≤ INPUT_LIMIT → text_of input ≡ Err (line, reason)
-        → NoFault (S.faults source.old) (S.faults source.new)
-        → (result ≡ Status.Refused line reason) ⊎ (result ≡ Status.NoMemory) }
-    ensures overlong { (input : List ℕ) → length words.now ≡ 0
-        → S.left source.old ≡ Some input → INPUT_LIMIT < length input
-        → NoFault (S.faults source.old) (S.faults source.new)
-        → (result ≡ Status.TooLong) ⊎ (result ≡ Status.NoMemory) }
+    // What the status says of the bytes and the faults, and which status comes.
+    ensures run { IsRun S.left S.faults K.written K.flushed K.faults (length words.now ≡ 0) source.old source.new
+        sink.old sink.new result }
 
     // The line on errs.
     ensures errs_line { Reports (E.written errs.old) (E.faults errs.old) (error_line result)
@@ -89,37 +55,8 @@ pub fn run_alone<S: Source, K: Sink, E: Sink>(
 /// Reads the input, and writes its text.
 fn run<S: Source, K: Sink>(alloc: Global, source: &mut S, sink: &mut K) -> Status
     ensures words { result ≢ Status.Usage }
-    ensures done { result ≡ Status.Done → (text : List ℕ)
-        × ReadsAs (S.left source.old) (S.left source.new) (Ok text)
-        × Adds (K.written sink.old) text (K.written sink.new) }
-    ensures done_flushed { result ≡ Status.Done → IsFlushed (K.written sink.new) (K.flushed sink.new) }
-    ensures refused { (line : ℕ) (reason : Reason) → result ≡ Status.Refused line reason
-        → ReadsAs (S.left source.old) (S.left source.new) (Err (line, reason)) }
-    ensures write_fault_front { result ≡ Status.WriteFault → (text : List ℕ)
-        × ReadsAs (S.left source.old) (S.left source.new) (Ok text)
-        × AddsFront (K.written sink.old) text (K.written sink.new) }
-    ensures write_fault_unflushed { result ≡ Status.WriteFault → K.flushed sink.new ≡ K.flushed sink.old }
-    ensures too_long { result ≡ Status.TooLong
-        → TakesExactly (S.left source.old) (INPUT_LIMIT + 1) (S.left source.new) }
-    ensures within_limit { result ≢ Status.TooLong
-        → TakesAtMost (S.left source.old) INPUT_LIMIT (S.left source.new) }
-    ensures unwritten { (result ≡ Status.Done) ⊎ (result ≡ Status.WriteFault) ⊎ (sink.new ≡ sink.old) }
-    ensures read_fault { result ≡ Status.ReadFault → Rose (S.faults source.old) (S.faults source.new) }
-    ensures read_calm { result ≢ Status.ReadFault → S.faults source.new ≡ S.faults source.old }
-    ensures write_fault { result ≡ Status.WriteFault → Rose (K.faults sink.old) (K.faults sink.new) }
-    ensures write_calm { result ≢ Status.WriteFault → K.faults sink.new ≡ K.faults sink.old }
-    ensures complete { (input text : List ℕ) → S.left source.old ≡ Some input
-        → length input ≤ INPUT_LIMIT → text_of input ≡ Ok text
-        → NoFault (S.faults source.old) (S.faults source.new)
-        → NoFault (K.faults sink.old) (K.faults sink.new)
-        → (result ≡ Status.Done) ⊎ (result ≡ Status.NoMemory) }
-    ensures refuses { (input : List ℕ) (line : ℕ) (reason : Reason) → S.left source.old ≡ Some input
-        → length input ≤ INPUT_LIMIT → text_of input ≡ Err (line, reason)
-        → NoFault (S.faults source.old) (S.faults source.new)
-        → (result ≡ Status.Refused line reason) ⊎ (result ≡ Status.NoMemory) }
-    ensures overlong { (input : List ℕ) → S.left source.old ≡ Some input
-        → INPUT_LIMIT < length input → NoFault (S.faults source.old) (S.faults source.new)
-        → (result ≡ Status.TooLong) ⊎ (result ≡ Status.NoMemory) }
+    ensures run { IsRun S.left S.faults K.written K.flushed K.faults (Unit {0}) source.old source.new
+        sink.old sink.new result }
 {
     let input = match read_all(alloc, source, INPUT_LIMIT) {
         Ok(input) => input,
