@@ -23,7 +23,11 @@ use std::alloc::{AllocError, Global};
 use std::sync::ledger::Ledger;
 
 /// The codes of a session's trees, by their numbers, and its remembered coefficients after a step; and the answer to the step.
-pub(crate) fn answer(codes: &mut Vec<Code>, sheet: &mut Sheet, step: &Step) -> Result<Answer, AllocError>
+pub(crate) fn answer(
+    codes: &mut Vec<Code>,
+    sheet: &mut Sheet,
+    step: &Step,
+) -> Result<Answer, AllocError>
     ensures truthful { (script : ScriptLines) (old new : State) → AreKept codes.old.items old → Fits (plain_of script new) new.space.book sheet.old → Takes script old new step.now → IfOk result (λ answer. IsTruthful script new answer) }
     ensures kept { (script : ScriptLines) (old new : State) → AreKept codes.old.items old → Takes script old new step.now → OnOk result (AreKept codes.new.items new) }
     ensures fits { (script : ScriptLines) (old new : State) → Fits (plain_of script new) new.space.book sheet.old → Takes script old new step.now → OnOk result (Fits (plain_of script new) new.space.book sheet.new) }

@@ -126,13 +126,17 @@ fn worked_out(alloc: Global, input: &[u8]) -> Result<u32, Fail> {
 #[test]
 fn each_coefficient_once(rt: HostRuntime) -> Result<(), Fail> {
     let alloc = rt.alloc();
-    let once = b"tableau euler 1\na 0\nb 1\nend\nsession\ntree t 1,2\nseries a method euler\nseries c compose a a\ncoeff c t\nend\n";
+    let once =
+        b"tableau euler 1\na 0\nb 1\nend\nsession\ntree t 1,2\nseries a method euler\nseries c compose a a\ncoeff c t\nend\n";
     assert_eq!(rt; worked_out(alloc, once)?, 5);
-    let twice = b"tableau euler 1\na 0\nb 1\nend\nsession\ntree t 1,2\nseries a method euler\nseries c compose a a\ncoeff c t\ncoeff c t\nend\n";
+    let twice =
+        b"tableau euler 1\na 0\nb 1\nend\nsession\ntree t 1,2\nseries a method euler\nseries c compose a a\ncoeff c t\ncoeff c t\nend\n";
     assert_eq!(rt; worked_out(alloc, twice)?, 5);
-    let more = b"tableau euler 1\na 0\nb 1\nend\nsession\ntree t 1,2\nseries a method euler\nseries c compose a a\ncoeff c t\ncoeff c t\nprint c 2\nsplit t\nend\n";
+    let more =
+        b"tableau euler 1\na 0\nb 1\nend\nsession\ntree t 1,2\nseries a method euler\nseries c compose a a\ncoeff c t\ncoeff c t\nprint c 2\nsplit t\nend\n";
     assert_eq!(rt; worked_out(alloc, more)?, 7);
-    let divided = b"tableau mid 1\na 1/2\nb 1\nend\nsession\ntree l 1\nseries a method mid\nseries g modifying a\ncoeff g l\nend\n";
+    let divided =
+        b"tableau mid 1\na 1/2\nb 1\nend\nsession\ntree l 1\nseries a method mid\nseries g modifying a\ncoeff g l\nend\n";
     assert_eq!(rt; worked_out(alloc, divided)?, 2);
     Ok(())
 }

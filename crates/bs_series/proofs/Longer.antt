@@ -42,7 +42,7 @@ weights tables k t = written_weight checked (table_at tables k) t
 pub same_over_front : SameOverFront
 same_over_front front more s h t =
     ap (λ (f : Map). f t) (valued_same (length front) (weights (front ++ more)) (weights front)
-        (λ k l. ap (λ (x : Table). λ u. written_weight checked x u) (get_or_append_left front more no_table k l)) s h)
+    (λ k l. ap (λ (x : Table). λ u. written_weight checked x u) (get_or_append_left front more no_table k l)) s h)
 
 -- ---- of a book
 each_at : (P : Series → Type 0) (es : List Series) (i : ℕ) (d : Series) → AllByRecursion P es → i < length es → P (get_or es i d)
