@@ -61,6 +61,6 @@ returns-in-Done-clause-once g c =
     let number : new.number ≡ c.args.number = c.in_ok-step.ensures.number ∙ c.steps.invariant.number in
     let distinct : AreDistinct new.space.book = subst (λ (es : List Series). AreDistinct es) c.book.ensures c.ids_differ.ensures in
     let done : Takes script old new (Done c.in-Done.reply) = subst (λ (s : Step). Takes script old new s) c.in-Done.is c.in_ok-step.ensures.takes in
-    rises_once script session new (found_of c.in_ok-given.given) c.in_ok-given.new.sheet c.args.steps.now c.next.new.steps
+    rises_once script session new (found_of c.in_ok-given.given) c.answer.new.sheet c.args.steps.now c.next.new.steps
     (c.in_ok-given.ensures.once script old new (session_need script session) (found_of c.steps.given) c.args.steps.now c.steps.steps c.next.new.steps c.steps.invariant.once (ap (λ (n : ℕ). session_need script (session_at script n)) (sym number)) c.in_ok-step.ensures.ids_stay distinct c.in_ok-step.ensures.takes c.in_ok-step.ensures.counts)
     done.3
