@@ -3,7 +3,7 @@ ghost use Rattle.std.specs.Prelude.{◌≡◌, All, IsTrue};
 ghost use Rattle.bs_store.specs.Closing.{numbers_of};
 ghost use Rattle.bs_memo.specs.Stripes.{IsEmptyOf};
 
-use crate::memo::Memo;
+use crate::memo::{Home, Memo};
 use crate::stripe::{MemoName, MemoStripe};
 use bs_store::{Pass, Store};
 use std::sync::Wait;
@@ -54,9 +54,14 @@ impl<'t, N: MemoName> Memo<'t, N> {
             tables: _,
             stripes,
             numbers,
-            mut home,
+            home,
             capacity: _,
         } = self;
+        let Home {
+            room,
+            passes: mut home,
+        } = home.into_inner();
+        only_if(rt, numbers.len() <= room);
         let mut place = 0;
         'stripes: for stripe in stripes {
             let pass = stripe.into_inner().emptied(rt, store);

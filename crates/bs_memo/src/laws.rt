@@ -1,7 +1,7 @@
 //! What a look and a keep do to the stripe that is lent to them.
-ghost use Rattle.std.specs.Prelude.{◌≡◌, ◌<◌, ◌≤◌, ◌↔◌, IfSome, IfOk, OnErr, MatchOption};
+ghost use Rattle.std.specs.Prelude.{◌≡◌, ◌<◌, ◌≤◌, ◌↔◌, IfSome, IfOk, OnOk, OnErr, MatchOption};
 ghost use Rattle.std.specs.Map.{lookup};
-ghost use Rattle.lru.specs.LruCache.{promoted};
+ghost use Rattle.lru.specs.LruCache.{displaced, lru_cache, promoted, put_entries};
 ghost use Rattle.bs_core.specs.Machine.{times, code_at, pair};
 ghost use Rattle.bs_store.specs.Walks.{More, Same, SamePass};
 ghost use Rattle.bs_memo.specs.Keys.{same_key};
@@ -12,8 +12,32 @@ use crate::key::MemoKey;
 use crate::stripe::{Kept, MemoName, MemoStripe};
 use bs_frac::Coef;
 use bs_store::{Pass, Store};
+use lru::LruCache;
 use std::alloc::AllocError;
 use std::sync::Wait;
+
+/// The entry of the key is the first from then on.
+fn bring_to_front(cache: &mut LruCache<MemoKey, Coef>, key: &MemoKey)
+    ensures { cache.new ≡ lru_cache (promoted (same_key key.now) cache.old.entries) cache.old.cap }
+{
+    cache.promote(key);
+}
+
+/// Puts an entry first, and gives what left the table for it.
+fn put_first(
+    cache: &mut LruCache<MemoKey, Coef>,
+    key: MemoKey,
+    coef: Coef,
+) -> Result<Option<(MemoKey, Coef)>, AllocError>
+    ensures entries { OnOk result (cache.new ≡ lru_cache (put_entries same_key cache.old key coef) cache.old.cap) }
+    ensures gone { IfOk result (λ gone. gone ≡ displaced same_key cache.old key coef) }
+    ensures err { OnErr result (cache.new ≡ cache.old) }
+{
+    match cache.push(key, coef) {
+        Ok(gone) => Ok(gone),
+        Err(_) => Err(AllocError),
+    }
+}
 
 /// The value of the key's series at the tree of its name, where the stripe has it. The entry is the most recently used
 /// one from then on. Takes no memory, and waits for nobody.
@@ -34,7 +58,7 @@ pub fn look_in<N: MemoName>(
     let Some(coef) = stripe.cache.peek(key).copied() else {
         return None;
     };
-    stripe.cache.promote(key);
+    bring_to_front(&mut stripe.cache, key);
     stripe.found = stripe.found.saturating_add(1);
     store.named();
     store.meet(pass, &mut stripe.pass);
@@ -92,14 +116,14 @@ pub fn keep_in<N: MemoName, R: Wait>(
     store.hold(rt, pass, name);
     store.give(rt, pass, &mut stripe.pass, name);
     stripe.pass.known();
-    match stripe.cache.push(copy, coef) {
+    match put_first(&mut stripe.cache, copy, coef) {
         Ok(gone) => {
             release_gone(rt, store, &mut stripe.pass, gone);
             Ok(Kept::Stored)
         }
-        Err(_) => {
+        Err(fault) => {
             store.release(rt, &mut stripe.pass, name);
-            Err(AllocError)
+            Err(fault)
         }
     }
 }

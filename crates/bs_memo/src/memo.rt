@@ -19,26 +19,44 @@ use std::marker::{Model, PhantomData};
 use std::num::NonZeroUsize;
 use std::sync::Mutex;
 
+/// Room for the passes that come home. It lies under a lock of its own, since a pass is not shared between threads.
+/// Contracts see for how many there is room.
+#[derive(Drop)]
+pub(crate) struct Home {
+    pub(crate) room: usize,
+    pub(crate) passes: Vec<Pass>,
+}
+
+impl Model for Home {
+    ghost use Rattle.std.specs.Prelude.{◌≡◌, ◌≤◌, [], ℕ};
+    ghost use Rattle.std.specs.Vec.{vec_capacity};
+
+    ghost Value = { ℕ };
+
+    ghost view = { λ h. h.room };
+
+    ghost invariant = { λ h. (h.passes.items ≡ []) × (h.room ≤ vec_capacity h.passes) };
+}
+
 /// Remembered values of series over one list of tableaux, at trees of one store.
 #[derive(Drop)]
 pub struct Memo<'t, N: MemoName> {
     pub(crate) tables: &'t [Tableau],
     pub(crate) stripes: Vec<Mutex<MemoStripe<N>>>,
     pub(crate) numbers: Vec<usize>,
-    pub(crate) home: Vec<Pass>,
+    pub(crate) home: Mutex<Home>,
     pub(crate) capacity: usize,
 }
 
 impl<'t, N: MemoName> Model for Memo<'t, N> {
-    ghost use Rattle.std.specs.Prelude.{◌≡◌, ◌<◌, ◌≤◌, ◌⊎◌, [], vec_len};
-    ghost use Rattle.std.specs.Vec.{vec_capacity};
+    ghost use Rattle.std.specs.Prelude.{◌≡◌, ◌<◌, ◌≤◌, ◌⊎◌, vec_len};
     ghost use Rattle.bs_memo.specs.Stripes.{OfMemo};
 
     ghost Value = { OfMemo };
 
     ghost view = { λ m. record { numbers = m.numbers.items; capacity = m.capacity } };
 
-    ghost invariant = { λ m. (m.tables.now ≡ N.tables) × (vec_len m.stripes ≡ vec_len m.numbers) × (0 < vec_len m.numbers) × (vec_len m.numbers ≤ 256) × (m.home.items ≡ []) × (vec_len m.numbers ≤ vec_capacity m.home) × ((m.capacity ≡ 0) ⊎ (vec_len m.numbers ≤ m.capacity)) };
+    ghost invariant = { λ m. (m.tables.now ≡ N.tables) × (vec_len m.stripes ≡ vec_len m.numbers) × (0 < vec_len m.numbers) × (vec_len m.numbers ≤ 256) × ((m.capacity ≡ 0) ⊎ (vec_len m.numbers ≤ m.capacity)) };
 }
 
 /// No memory for a memo, and its passes back.
@@ -178,11 +196,15 @@ fn fill<'t, N: MemoName>(
         stripes.push_reserved(Mutex::new(new_stripe(place, count, part, cache, pass)));
         place += 1;
     }
+    let home = Home {
+        room: count,
+        passes: home,
+    };
     Memo {
         tables,
         stripes,
         numbers,
-        home,
+        home: Mutex::new(home),
         capacity,
     }
 }

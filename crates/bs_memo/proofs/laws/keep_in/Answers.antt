@@ -22,7 +22,7 @@ release_gone-requires-clause-held g c =
     let room = c.stripe.inside.cache.cap in
     let es = c.stripe.inside.cache.entries in
     let now = put_entries same_key (lru_cache es room) k c.args.coef in
-    let put : Put g.N.MemoName.tables c.give.new.to.held now c.in-Ok.gone = keeps g.N.MemoName.tables c.args.key.now k n c.args.coef room es own c.hold.new.pass.held held c.give.new.to.held c.in-Ok.gone c.in_ok-copy.ensures c.name-name.ensures c.requires.held c.hold.ensures.held c.give.ensures.to.0 c.requires.value c.len-entries.ensures.valid.1 c.len-entries.ensures.valid.2 c.stripe.invariant.3 c.in-Ok.ensures.old in
+    let put : Put g.N.MemoName.tables c.give.new.to.held now c.in-Ok.gone = keeps g.N.MemoName.tables c.args.key.now k n c.args.coef room es own c.hold.new.pass.held held c.give.new.to.held c.in-Ok.gone c.in_ok-copy.ensures c.name-name.ensures c.requires.held c.hold.ensures.held c.give.ensures.to.0 c.requires.value c.len-entries.ensures.valid.1 c.len-entries.ensures.valid.2 c.stripe.invariant.3 c.in-Ok.ensures.gone in
     put_held g.N.MemoName.tables c.give.new.to.held now c.in-Ok.gone put
 
 pub invariant_of-stripe : goal.invariant_of-stripe
@@ -34,11 +34,11 @@ invariant_of-stripe g c =
     let room = c.stripe.inside.cache.cap in
     let es = c.stripe.inside.cache.entries in
     let now = put_entries same_key (lru_cache es room) k c.args.coef in
-    let put : Put g.N.MemoName.tables c.give.new.to.held now c.in-Ok.gone = keeps g.N.MemoName.tables c.args.key.now k n c.args.coef room es own c.hold.new.pass.held held c.give.new.to.held c.in-Ok.gone c.in_ok-copy.ensures c.name-name.ensures c.requires.held c.hold.ensures.held c.give.ensures.to.0 c.requires.value c.len-entries.ensures.valid.1 c.len-entries.ensures.valid.2 c.stripe.invariant.3 c.in-Ok.ensures.old in
+    let put : Put g.N.MemoName.tables c.give.new.to.held now c.in-Ok.gone = keeps g.N.MemoName.tables c.args.key.now k n c.args.coef room es own c.hold.new.pass.held held c.give.new.to.held c.in-Ok.gone c.in_ok-copy.ensures c.name-name.ensures c.requires.held c.hold.ensures.held c.give.ensures.to.0 c.requires.value c.len-entries.ensures.valid.1 c.len-entries.ensures.valid.2 c.stripe.invariant.3 c.in-Ok.ensures.gone in
     let i = c.stripe.invariant in
     let new = c.in-Ok.ensures.entries in
     let full = put_long k c.args.coef room es c.len-entries.ensures.valid.1 c.len-entries.ensures.valid.2 in
-    let long : length c.push.new.self.entries ≤ room = subst (λ (l : LruCache OfKey Coef). length l.entries ≤ room) (sym new) full in
+    let long : length c.put_first.new.cache.entries ≤ room = subst (λ (l : LruCache OfKey Coef). length l.entries ≤ room) (sym new) full in
     let cap = i.1 in
     let some_room = c.if-stripe-eq0.false in (
       c.release_gone.ensures.same.0 ∙ c.give.ensures.same.1.0 ∙ i.0,
@@ -54,8 +54,8 @@ returns-in-Ok-clause-pairs g c =
     let n = c.name-name.result in
     back_again n own c.hold.new.pass.held c.give.new.from.held (subst (λ (x : Name). 0 < times x own) (sym c.name-name.ensures) c.requires.held) c.hold.ensures.held c.give.ensures.from.0
 
-pub returns-clause-pairs : goal.returns-clause-pairs
-returns-clause-pairs g c =
+pub returns-in-Err-clause-pairs : goal.returns-in-Err-clause-pairs
+returns-in-Err-clause-pairs g c =
     let own = c.args.pass.now.held in
     let n = c.name-name.result in
     back_again n own c.hold.new.pass.held c.give.new.from.held (subst (λ (x : Name). 0 < times x own) (sym c.name-name.ensures) c.requires.held) c.hold.ensures.held c.give.ensures.from.0
@@ -82,8 +82,8 @@ invariant_of-stripe-in-Err g c =
       subst (λ (l : LruCache OfKey Coef). Fits g.N.MemoName.tables c.release.new.pass.held l.entries) (sym old) (fits_same _ held c.release.new.pass.held c.stripe.inside.cache.entries same i.3),
     )
 
-pub returns-clause-err : goal.returns-clause-err
-returns-clause-err g c =
+pub returns-in-Err-clause-err : goal.returns-in-Err-clause-err
+returns-in-Err-clause-err g c =
     let own = c.args.pass.now.held in
     let held = c.stripe.inside.pass.held in
     let n = c.name-name.result in

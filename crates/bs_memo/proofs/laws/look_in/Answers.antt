@@ -21,11 +21,11 @@ invariant_of-stripe g c =
     let i = c.stripe.invariant in
     let same = c.meet.ensures.same.1 in
     let test = same_key c.args.key.now in
-    let new = c.promote.ensures.entries in (
+    let new = c.bring_to_front.ensures in (
       ap (λ (p : OfPass). p.store) same ∙ i.0,
       ap (λ (l : LruCache OfKey Coef). l.cap) new ∙ i.1,
       subst (λ (l : LruCache OfKey Coef). length l.entries ≤ c.stripe.inside.capacity) (sym new) (promoted_long test c.stripe.inside.cache.entries c.stripe.inside.capacity i.2),
-      subst (λ (p : OfPass). Fits g.N.MemoName.tables p.held c.promote.new.self.entries) (sym same)
+      subst (λ (p : OfPass). Fits g.N.MemoName.tables p.held c.bring_to_front.new.cache.entries) (sym same)
           (subst (λ (l : LruCache OfKey Coef). Fits g.N.MemoName.tables c.stripe.inside.pass.held l.entries) (sym new) (fits_promoted g.N.MemoName.tables test c.stripe.inside.pass.held c.stripe.inside.cache.entries i.3)),
     )
 

@@ -14,7 +14,7 @@ stripes-preserved g c =
     let home = c.stripes.home.items in
     let items : c.push_reserved.new.self.items ≡ home ++ p ∷ [] = c.push_reserved.ensures.items in
     let step = ap length c.in-Some.ensures.steps.0 in
-    let same : c.number.result ≡ c.index.result.now = eqb-true c.number.result c.index.result.now c.only_if.ensures in
+    let same : c.number.result ≡ c.index.result.now = eqb-true c.number.result c.index.result.now c.only_if-in-stripes.ensures in
     let rest = i.rest in record {
       yielded = let a = i.yielded in let e = length-append c.stripes.yielded (c.in-Some.stripe ∷ []) in omega arith;
       rest = omega arith;
