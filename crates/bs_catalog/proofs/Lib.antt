@@ -6,3 +6,5 @@ mod Tables
 pub mod Remembering
 pub mod Putting
 pub mod Shelving
+mod Forests
+pub mod Grouping

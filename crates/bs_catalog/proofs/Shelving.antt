@@ -100,7 +100,7 @@ pub leaf_part_rows : (cs : List Code) (s : Code) (rows : List (List ℕ)) → Is
     → AreRows cs rows ((((1, 0) ∷ []) ∷ (s ∷ [])) ∷ []) → AreRows cs rows (part_rows s)
 leaf_part_rows cs s rows h k r = subst (λ (rs : List (List Code)). AreRows cs rows rs) (sym (of_leaf s h k).parts) r
 
-read_rows : (lists : List (List (List ℕ))) (n : ℕ) (rows : List (List ℕ)) → rows ≡ slice_index_or lists n rows → 0 < length (rows_at lists n) → rows_at lists n ≡ rows
+pub read_rows : (lists : List (List (List ℕ))) (n : ℕ) (rows : List (List ℕ)) → rows ≡ slice_index_or lists n rows → 0 < length (rows_at lists n) → rows_at lists n ≡ rows
 read_rows [] n rows e h = absurd (omega (arith, h))
 read_rows (l ∷ lists) zero rows e h = sym e
 read_rows (l ∷ lists) (suc n) rows e h = read_rows lists n rows e h

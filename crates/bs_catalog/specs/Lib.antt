@@ -3,6 +3,8 @@ pub mod RowList
 pub mod Making
 pub mod Memo
 pub mod Puts
+pub mod Gathered
+pub mod Forests
 pub use Rattle.bs_tree.specs.Tree
 pub use Rattle.bs_split.specs.Splitting
 pub use Rattle.bs_part.specs.Partition

@@ -3,9 +3,14 @@ ghost use Rattle.std.specs.Prelude.{◌≡◌, ◌<◌, ◌⊎◌, ◌↔◌, Is
 ghost use Rattle.bs_tree.specs.Code.{child_codes};
 ghost use Rattle.bs_catalog.specs.Making.{attached, merged, without_first, AreHalves};
 ghost use Rattle.bs_catalog.specs.Memo.{Makes};
+ghost use Rattle.bs_split.specs.Splitting.{init};
+ghost use Rattle.bs_part.specs.Partition.{tail};
+ghost use Rattle.bs_catalog.specs.Gathered.{AreGathered};
+ghost use Rattle.bs_catalog.specs.Forests.{groups_at, OneForgotten};
 ghost use Rattle.bs_catalog.specs.Shelf.{Code as Pairs, Numbers, AreRows, split_rows, part_rows, rows_at, HasSplits, HasParts, Grows};
 
 use crate::arena::{Arena, without_first};
+use crate::gathering::{Gathered, Groups, gather};
 use crate::making::{leaf_parts, leaf_splits, parts_by, splits_by};
 use crate::rows::Rows;
 use bs_tree::Code;
@@ -13,24 +18,29 @@ use std::alloc::{AllocError, Global};
 use std::marker::Model;
 
 /// Trees by number, with what is made of them: at each number the rows of its splittings and of its partitions, none where
-/// they are not made.
+/// they are not made, and what is gathered of them, nothing where they are not gathered.
 #[derive(Drop)]
 pub struct Catalog {
     alloc: Global,
     arena: Arena,
     split_lists: Vec<Rows>,
     part_lists: Vec<Rows>,
+    split_groups: Vec<Groups>,
+    part_groups: Vec<Groups>,
 }
 
 impl Model for Catalog {
     ghost use Rattle.bs_catalog.specs.Shelf.{Shelf, split_rows, part_rows};
     ghost use Rattle.bs_catalog.specs.Memo.{HoldsRows};
+    ghost use Rattle.bs_catalog.specs.Forests.{HoldsGroups};
+    ghost use Rattle.bs_split.specs.Splitting.{init};
+    ghost use Rattle.bs_part.specs.Partition.{tail};
 
     ghost Value = { Shelf };
 
     ghost view = { λ a. record { codes = a.arena; splits = a.split_lists.items; parts = a.part_lists.items } };
 
-    ghost invariant = { λ a. HoldsRows split_rows a.arena a.split_lists.items × HoldsRows part_rows a.arena a.part_lists.items };
+    ghost invariant = { λ a. HoldsRows split_rows a.arena a.split_lists.items × HoldsRows part_rows a.arena a.part_lists.items × HoldsGroups init a.arena a.split_lists.items a.split_groups.items × HoldsGroups tail a.arena a.part_lists.items a.part_groups.items };
 }
 
 /// The numbers of a tree's first child, and of the tree without it.
@@ -61,11 +71,66 @@ fn grow(alloc: Global, lists: &mut Vec<Rows>, place: usize) -> Result<(), AllocE
     Ok(())
 }
 
-/// Puts the rows at a number.
-fn put_rows(alloc: Global, lists: &mut Vec<Rows>, number: u32, rows: Rows) -> Result<(), AllocError>
+/// Forgets what is gathered of the rows of a number.
+fn forget(alloc: Global, groups: &mut Vec<Groups>, number: u32)
+    ensures { OneForgotten groups.old.items groups.new.items number }
+{
+    if (number as usize) < groups.len() {
+        groups[number as usize] = Groups::new(alloc);
+    }
+}
+
+/// Puts empty lists last, so that there is one at this place.
+fn grow_groups(alloc: Global, groups: &mut Vec<Groups>, place: usize) -> Result<(), AllocError>
+    ensures same { (n : ℕ) → groups_at groups.new.items n ≡ groups_at groups.old.items n }
+    ensures reached { OnOk result (place < length groups.new.items) }
+{
+    'fill: while groups.len() <= place {
+        groups.push(Groups::new(alloc))?;
+    }
+    Ok(())
+}
+
+/// Puts what is gathered of the rows of a number.
+fn put_groups(
+    alloc: Global,
+    groups: &mut Vec<Groups>,
+    number: u32,
+    gathered: Groups,
+) -> Result<(), AllocError>
+    ensures { (n : ℕ) → (groups_at groups.new.items n ≡ groups_at groups.old.items n) ⊎ ((n ≡ number) × (groups_at groups.new.items n ≡ gathered)) }
+{
+    grow_groups(alloc, groups, number as usize)?;
+    groups[number as usize] = gathered;
+    Ok(())
+}
+
+/// What is gathered of the rows of a number, where anything is.
+fn groups_of(groups: &[Groups], number: u32) -> Option<&[Gathered]>
+    ensures is { IfSome result (λ gs. gs.now ≡ groups_at groups.now number) }
+    ensures some { IfSome result (λ gs. 0 < length gs.now) }
+{
+    let groups = groups.get(number as usize)?.groups();
+    if groups.is_empty() {
+        None
+    } else {
+        Some(groups)
+    }
+}
+
+/// Puts the rows at a number, and forgets what was gathered there.
+fn put_rows(
+    alloc: Global,
+    lists: &mut Vec<Rows>,
+    groups: &mut Vec<Groups>,
+    number: u32,
+    rows: Rows,
+) -> Result<(), AllocError>
     ensures put { OnOk result (rows_at lists.new.items number ≡ rows) }
     ensures others { (n : ℕ) → (rows_at lists.new.items n ≡ rows_at lists.old.items n) ⊎ ((n ≡ number) × (rows_at lists.new.items n ≡ rows)) }
+    ensures forgotten { OneForgotten groups.old.items groups.new.items number }
 {
+    forget(alloc, groups, number);
     grow(alloc, lists, number as usize)?;
     lists[number as usize] = rows;
     Ok(())
@@ -83,6 +148,8 @@ impl Catalog {
             arena: Arena::new(alloc),
             split_lists: Vec::new(alloc),
             part_lists: Vec::new(alloc),
+            split_groups: Vec::new(alloc),
+            part_groups: Vec::new(alloc),
         }
     }
 
@@ -152,7 +219,13 @@ impl Catalog {
     {
         let _order = code.order();
         let rows = leaf_splits(self.alloc, number)?;
-        put_rows(self.alloc, &mut self.split_lists, number, rows)
+        put_rows(
+            self.alloc,
+            &mut self.split_lists,
+            &mut self.split_groups,
+            number,
+            rows,
+        )
     }
 
     /// Puts the rows of the splittings of a tree, from those of its first child and of the tree without it.
@@ -179,7 +252,13 @@ impl Catalog {
             &self.split_lists[child as usize],
             &self.split_lists[rest as usize],
         )?;
-        put_rows(self.alloc, &mut self.split_lists, number, rows)
+        put_rows(
+            self.alloc,
+            &mut self.split_lists,
+            &mut self.split_groups,
+            number,
+            rows,
+        )
     }
 
     /// Makes the rows of a tree's splittings, where they are not made, from those of smaller trees.
@@ -219,9 +298,32 @@ impl Catalog {
     /// that are cut off.
     pub fn splits(&self, number: u32) -> &Rows
         requires { HasSplits self.now number }
-        ensures { (code : Pairs) → Numbers self.now.codes number code → AreRows self.now.codes result.now (split_rows code) }
+        ensures rows { (code : Pairs) → Numbers self.now.codes number code → AreRows self.now.codes result.now (split_rows code) }
+        ensures is { result.now ≡ rows_at self.now.splits number }
     {
         &self.split_lists[number as usize]
+    }
+
+    /// Gathers the rows of a tree's splittings, all but the last, where that was not done.
+    pub fn gather_splits(&mut self, number: u32) -> Result<(), AllocError>
+        requires { HasSplits self.old number }
+        ensures grows { Grows self.old self.new }
+    {
+        if groups_of(&self.split_groups, number).is_some() {
+            return Ok(());
+        }
+        let rows = &self.split_lists[number as usize];
+        let end = rows.len() - 1;
+        let groups = gather(self.alloc, &mut self.arena, rows, 0, end)?;
+        put_groups(self.alloc, &mut self.split_groups, number, groups)
+    }
+
+    /// The gathered rows of a tree's splittings, all but the last, where they are gathered.
+    pub fn gathered_splits(&self, number: u32) -> Option<&[Gathered]>
+        requires { HasSplits self.now number }
+        ensures { IfSome result (λ gs. AreGathered self.now.codes (rows_at self.now.splits number) (init (rows_at self.now.splits number)) gs.now) }
+    {
+        groups_of(&self.split_groups, number)
     }
 
     fn has_parts(&self, number: u32) -> bool
@@ -239,7 +341,13 @@ impl Catalog {
     {
         let _order = code.order();
         let rows = leaf_parts(self.alloc, &mut self.arena, number)?;
-        put_rows(self.alloc, &mut self.part_lists, number, rows)
+        put_rows(
+            self.alloc,
+            &mut self.part_lists,
+            &mut self.part_groups,
+            number,
+            rows,
+        )
     }
 
     /// Puts the rows of the partitions of a tree, from those of its first child and of the tree without it.
@@ -265,7 +373,13 @@ impl Catalog {
             &self.part_lists[child as usize],
             &self.part_lists[rest as usize],
         )?;
-        put_rows(self.alloc, &mut self.part_lists, number, rows)
+        put_rows(
+            self.alloc,
+            &mut self.part_lists,
+            &mut self.part_groups,
+            number,
+            rows,
+        )
     }
 
     /// Makes the rows of a tree's partitions, where they are not made, from those of smaller trees.
@@ -304,8 +418,30 @@ impl Catalog {
     /// The partitions of a tree, in their order: for each the number of the skeleton, and those of the parts.
     pub fn parts(&self, number: u32) -> &Rows
         requires { HasParts self.now number }
-        ensures { (code : Pairs) → Numbers self.now.codes number code → AreRows self.now.codes result.now (part_rows code) }
+        ensures rows { (code : Pairs) → Numbers self.now.codes number code → AreRows self.now.codes result.now (part_rows code) }
+        ensures is { result.now ≡ rows_at self.now.parts number }
     {
         &self.part_lists[number as usize]
+    }
+
+    /// Gathers the rows of a tree's partitions, all behind the first, where that was not done.
+    pub fn gather_parts(&mut self, number: u32) -> Result<(), AllocError>
+        requires { HasParts self.old number }
+        ensures grows { Grows self.old self.new }
+    {
+        if groups_of(&self.part_groups, number).is_some() {
+            return Ok(());
+        }
+        let rows = &self.part_lists[number as usize];
+        let groups = gather(self.alloc, &mut self.arena, rows, 1, rows.len())?;
+        put_groups(self.alloc, &mut self.part_groups, number, groups)
+    }
+
+    /// The gathered rows of a tree's partitions, all behind the first, where they are gathered.
+    pub fn gathered_parts(&self, number: u32) -> Option<&[Gathered]>
+        requires { HasParts self.now number }
+        ensures { IfSome result (λ gs. AreGathered self.now.codes (rows_at self.now.parts number) (tail (rows_at self.now.parts number)) gs.now) }
+    {
+        groups_of(&self.part_groups, number)
     }
 }

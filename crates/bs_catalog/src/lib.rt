@@ -3,6 +3,7 @@
 
 mod arena;
 mod catalog;
+mod gathering;
 mod making;
 mod memo;
 mod rows;
@@ -11,5 +12,6 @@ mod tests;
 mod way;
 
 pub use catalog::{Catalog, Halves};
+pub use gathering::Gathered;
 pub use rows::Rows;
 pub use way::Way;

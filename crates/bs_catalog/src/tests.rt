@@ -1,7 +1,7 @@
 //! The rows of trees beside the walks over their splittings and partitions, and rows that are known from elsewhere.
 ghost use Rattle.std.specs.Prelude.{◌≡◌, ◌<◌};
 
-use crate::{Catalog, Rows};
+use crate::{Catalog, Gathered, Rows};
 use bs_part::Parts;
 use bs_split::Splits;
 use bs_steps::Steps;
@@ -219,5 +219,63 @@ fn two_roots_become_one(rt: HostRuntime) -> Result<(), Fail> {
     let pair = catalog.number(&code_of(rt.alloc(), "12", "31")?)?;
     let both = catalog.number(&code_of(rt.alloc(), "1232", "0121")?)?;
     assert_eq!(rt; catalog.merge(chain, pair)?, both);
+    Ok(())
+}
+
+/// How many of the rows have this first tree and this forest.
+fn times(groups: &[Gathered], first: u32, forest: u32) -> u32 {
+    let mut times: u32 = 0;
+    for group in groups {
+        if group.first == first && group.forest == forest {
+            times = times.saturating_add(group.times);
+        }
+    }
+    times
+}
+
+/// How many of a tree's splittings, and how many of its partitions, have this first tree and this forest.
+fn gathered_times(
+    catalog: &mut Catalog,
+    tree: &Code,
+    first: &Code,
+    forest: &Code,
+) -> Result<(u32, u32), AllocError> {
+    let first = catalog.number(first)?;
+    let forest = catalog.number(forest)?;
+    let tree = catalog.number(tree)?;
+    catalog.make_splits(tree)?;
+    catalog.make_parts(tree)?;
+    catalog.gather_splits(tree)?;
+    catalog.gather_parts(tree)?;
+    let splits = catalog.gathered_splits(tree).unwrap_or(&[]);
+    let parts = catalog.gathered_parts(tree).unwrap_or(&[]);
+    Ok((times(splits, first, forest), times(parts, first, forest)))
+}
+
+/// Of a root with four leaves: first trees and the trees that have forests as their children, with how many of the splittings but
+/// the last and of the partitions behind the first there are, by hand.
+const OF_A_BUSH: [(&str, &str, u32, u32); 10] = [
+    ("1", "12222", 1, 0),
+    ("12", "1222", 4, 0),
+    ("122", "122", 6, 0),
+    ("1222", "12", 4, 0),
+    ("12222", "1", 0, 0),
+    ("1", "123333", 0, 0),
+    ("12", "123332", 0, 4),
+    ("122", "123322", 0, 6),
+    ("1222", "123222", 0, 4),
+    ("12222", "122222", 0, 1),
+];
+
+#[test]
+fn rows_of_a_bush_are_gathered(rt: HostRuntime) -> Result<(), Fail> {
+    let mut catalog = Catalog::new(rt.alloc());
+    let bush = code_of(rt.alloc(), "12222", "00000")?;
+    for (first, forest, splits, parts) in OF_A_BUSH {
+        let first = code_of(rt.alloc(), first, "00000")?;
+        let forest = code_of(rt.alloc(), forest, "000000")?;
+        let found = gathered_times(&mut catalog, &bush, &first, &forest)?;
+        assert_eq!(rt; found, (splits, parts));
+    }
     Ok(())
 }

@@ -1,26 +1,27 @@
 -- What a driver knows of a session's trees, after each kind of step.
-use Rattle.std.proofs.Common.{◌≡◌, ℕ, suc, ◌+◌, ◌<◌, Bool, true, false, zero, List, [], ◌∷◌, ◌++◌, length, length-append, Option, Some, None, Vec, Global, slice_get, refl, sym, ◌∙◌, ap, subst, inl, inr, arith, add-one}
-use Rattle.std.proofs.lemmas.Bool.{cases_Bool}
+use Rattle.std.proofs.Common.{◌≡◌, ℕ, suc, Bool, true, false, zero, List, [], ◌∷◌, ◌++◌, length, length-append, Some, None, Vec, Global, slice_get, refl, sym, ◌∙◌, subst, inl, inr, arith}
 use Rattle.bs_tree.specs.Isomorphic.{isomorphic}
 use Rattle.bs_tree.specs.Code.{tree_of}
 use Rattle.bs_script.specs.Blocks.{ScriptLines}
-use Rattle.bs_session.specs.Names.{at, Sets}
+use Rattle.bs_session.specs.Names.{at}
 use Rattle.bs_frac.specs.declared.coef.Coef.{Coef}
 use Rattle.bs_tableau.specs.Table.{Table}
-use Rattle.bs_series.specs.Series.{Series}
 use Rattle.bs_series.specs.SeriesCode.{Code, written_at}
-use Rattle.bs_series.specs.Expressions.{series_at}
-use Rattle.bs_session.specs.Works.{work_awaiting, IsHanded, StepsOn}
-use Rattle.bs_session.specs.Machine.{State, plain_of, IsTruthful, IsTruthfulOf, IsTrueOf, IsTrueValue, Interns, Releases, Compares, Works, IsDone, SaysOn}
+use Rattle.bs_series.specs.Expressions.{series_at, Extends}
+use Rattle.bs_alone.specs.Sheet.{Sheet}
+use Rattle.bs_alone.specs.Fits.{Fits}
+use Rattle.bs_alone.proofs.Fitting.{fits-more}
+use Rattle.bs_session.specs.Works.{IsHanded}
+use Rattle.bs_session.specs.Machine.{State, plain_of, IsTruthful, IsTruthfulOf, IsTrueOf, Interns, Releases, Compares, Works, IsDone, SaysOn}
 use Rattle.bs_session.specs.declared.asked.Asked.{Asked}
 use Rattle.bs_session.specs.declared.asked.Asked.TheVariants as asked
 use Rattle.bs_session.specs.declared.step.Step.{Step}
 use Rattle.bs_session.specs.declared.step.Step.TheVariants.{Intern, Release, Same, Look, Keep, Done}
 use Rattle.bs_session.specs.declared.live.LiveTree.{LiveTree}
 use Rattle.bs_session.specs.declared.step.Answer.{Answer}
-use Rattle.bs_session.specs.declared.step.Answer.TheVariants.{Go, Yes, No, Found, Missing}
+use Rattle.bs_session.specs.declared.step.Answer.TheVariants.{Go, Found, Missing}
 use Rattle.bs_session.proofs.Sound.{at_cases}
-use Rattle.bs_drive.specs.Alone.{AreKept, yes_or_no, compared_codes, compared}
+use Rattle.bs_drive.specs.Alone.{AreKept, yes_or_no, compared}
 
 some_is : (x y : LiveTree) → Some x ≡ Some y → x ≡ y
 some_is x y e = cc
@@ -66,12 +67,12 @@ kept-same codes old new live interned kept = record {
   each = λ name t found. kept.each name t (subst (λ l. at name l ≡ Some t) live found);
 }
 
-truthful_by : (l r : LiveTree) (b : Bool) → isomorphic (tree_of l.code) (tree_of r.code) ≡ b → IsTrueOf l r (yes_or_no b)
+pub truthful_by : (l r : LiveTree) (b : Bool) → isomorphic (tree_of l.code) (tree_of r.code) ≡ b → IsTrueOf l r (yes_or_no b)
 truthful_by l r true e = e
 truthful_by l r false e = e
 
 -- an answer to what was asked
-truthful-as : (script : ScriptLines) (s : State) (question : Asked) (answer : Answer) → s.asked ≡ question → IsTruthfulOf (plain_of script s) s.space.book s.work question answer → IsTruthful script s answer
+pub truthful-as : (script : ScriptLines) (s : State) (question : Asked) (answer : Answer) → s.asked ≡ question → IsTruthfulOf (plain_of script s) s.space.book s.work question answer → IsTruthful script s answer
 truthful-as script s question answer e h = subst (λ q. IsTruthfulOf (plain_of script s) s.space.book s.work q answer) (sym e) h
 
 pub truthful-go : (script : ScriptLines) (s : State) → s.asked ≡ asked.Nothing → IsTruthful script s Go
@@ -112,3 +113,9 @@ done_is (Same left right) d = absurd d
 done_is (Look id code) d = absurd d
 done_is (Keep id code v) d = absurd d
 done_is (Done reply) d = (reply, refl)
+
+-- a sheet goes on fitting
+pub fits-after : (script : ScriptLines) (old new : State) (sheet : Sheet) → new.number ≡ old.number → Extends old.space.book new.space.book → Fits (plain_of script old) old.space.book sheet → Fits (plain_of script new) new.space.book sheet
+fits-after script old new sheet number grows fits =
+    let tables : plain_of script new ≡ plain_of script old = rw number refl in
+    subst (λ (ts : List Table). Fits ts new.space.book sheet) (sym tables) (fits-more (plain_of script old) old.space.book new.space.book sheet grows fits)

@@ -1,5 +1,5 @@
 -- No pair that is kept was kept before.
-use Rattle.std.proofs.Common.{◌≡◌, ℕ, ◌+◌, ◌<◌, List, [], ◌∷◌, ◌++◌, length, map, Option, Some, None, IsSome, IfSome, Bool, true, false, slice_get, arith, refl, sym, ◌∙◌, ap, ap₂, subst}
+use Rattle.std.proofs.Common.{◌≡◌, ℕ, ◌+◌, ◌<◌, List, [], ◌∷◌, ◌++◌, length, map, Option, Some, None, IsSome, Bool, true, false, slice_get, arith, refl, sym, ◌∙◌, ap, ap₂, subst}
 use Rattle.std.specs.List.{AllByRecursion}
 use Rattle.bs_frac.specs.declared.coef.Coef.{Coef}
 use Rattle.bs_tree.specs.Tree.{Tree}
@@ -18,17 +18,18 @@ use Rattle.bs_alone.proofs.Pairs.{kept-cases}
 use Rattle.bs_eval.specs.Needs.{tree_pair}
 use Rattle.bs_eval.specs.declared.pair.Pair.{Pair}
 use Rattle.bs_session.specs.Needed.{session_need}
+use Rattle.bs_session.specs.Listing.{session_listed}
 use Rattle.bs_session.specs.WorkCounted.{completed_on, work_waited}
-use Rattle.bs_session.specs.Counted.{waits_by, session_begun, session_waiting, session_waited, IsTame, Counts}
+use Rattle.bs_session.specs.Counted.{waits_by, session_waiting, session_waited, IsTame, Counts}
 use Rattle.bs_session.specs.Machine.{State, Takes, Works, found_of, need_whole}
 use Rattle.bs_session.specs.declared.asked.Asked.{Asked}
 use Rattle.bs_session.specs.declared.asked.Asked.TheVariants as asked
 use Rattle.bs_session.specs.declared.step.Answer.{Answer}
 use Rattle.bs_session.specs.declared.step.Step.{Step}
-use Rattle.bs_session.specs.declared.step.Step.TheVariants.{Intern, Release, Same, Look, Keep, Done}
+use Rattle.bs_session.specs.declared.step.Step.TheVariants.{Look, Keep}
 use Rattle.bs_session.proofs.Counting.{waited_look, waited_none, waited_found, tame_waited, tame_completes, idle_begun}
 use Rattle.bs_drive.specs.Alone.{yes_or_no, compared_codes, compared}
-use Rattle.bs_drive.specs.Once.{at_tree, sum_terms, IsOf, AreDistinct, IsKept, IsDue, IsOnce, RisesOnce}
+use Rattle.bs_drive.specs.Once.{at_tree, IsOf, AreDistinct, IsKept, IsDue, IsOnce, RisesOnce}
 
 -- ---- the book grows
 kept_more : (es es' : List Series) (sheet : Sheet) (ps : List (Series × Code)) → Extends es es' → AllByRecursion (IsKept es sheet) ps → AllByRecursion (IsKept es' sheet) ps
@@ -158,17 +159,19 @@ module _ (ns : List (Series × Tree)) (old new : State) (given : Option Coef) (s
       }
 
 -- ---- the first state and the last
-pub rises_once : (script : ScriptLines) (session : SessionLines) (s : State) (given : Option Coef) (sheet : Sheet) (m n : ℕ) → IsOnce (session_need script session) s given sheet m n → s.asked ≡ asked.Nothing → RisesOnce script session m n
-rises_once script session s given sheet m n once z = record { pairs = once.pairs; apart = once.apart; needed = once.needed; risen = omega (arith, once.counted, idle_begun s z) }
+pub rises_once : (script : ScriptLines) (session : SessionLines) (s : State) (given : Option Coef) (sheet : Sheet) (m n left : ℕ)
+    → IsOnce (session_need script session) s given sheet (m + session_listed script session) (n + left) → left ≡ 0 → s.asked ≡ asked.Nothing → RisesOnce script session m n
+rises_once script session s given sheet m n left once none z =
+    record { pairs = once.pairs; apart = once.apart; needed = once.needed; risen = omega (arith, once.counted, idle_begun s z, none) }
 
-pub first_once : (ns : List (Series × Tree)) (s : State) (sheet : Sheet) (m : ℕ) → s.asked ≡ asked.Nothing → IsOnce ns s None sheet m m
-first_once ns s sheet m h = record {
+pub first_once : (ns : List (Series × Tree)) (s : State) (sheet : Sheet) (m n : ℕ) → n ≡ m → s.asked ≡ asked.Nothing → IsOnce ns s None sheet m n
+first_once ns s sheet m n same h = record {
   pairs = [];
   apart = tt;
   needed = tt;
   kept = tt;
   due = subst (λ (ps : List Pair). AllByRecursion (IsDue s.space.book ns sheet) ps) (sym (ap (λ (a : Asked). waits_by a (work_waited s.work None)) h)) tt;
-  counted = omega (arith, idle_begun s h);
+  counted = omega (arith, idle_begun s h, same);
 }
 
 -- ---- a comparison finds nothing

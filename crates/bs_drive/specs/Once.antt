@@ -1,14 +1,17 @@
--- That a session works out no coefficient twice: the terms that are counted are those of pairs that it needs and that are all different.
+-- That a session works out no coefficient twice: what is counted are the terms of pairs that it needs and that are all different, and the lines
+-- that it lists.
 --
 --   at_tree p            == the series and the tree of a series and a code
 --   sum_terms ps         == the terms of some pairs
 --   IsOf ns p            == the code is one of a tree, and the pair with that tree is one of ns
---   RisesOnce script session n n' == THE COUNTER HAS RISEN from n to n' by the terms of pairs that the session needs, each once
+--   RisesOnce script session n n' == THE COUNTER HAS RISEN from n to n' by the terms of pairs that the session needs, each once, and by the lines
+--                           of splittings and partitions that it lists
 --   AreDistinct es       == no expression stands at two places
 --   IsKept es sheet p    == the sheet has a coefficient of the pair, under the place of its expression
 --   IsDue es ns sheet p  == the pair is one of ns, and the sheet has no coefficient of it
---   IsOnce ns s given sheet n n' == so far the counter has risen by the terms of pairs of ns that are all different, and by those that are counted of the
---                           pairs that wait; the former are in the sheet, the latter are not, with the pair whose look is now answered with nothing
+--   IsOnce ns s given sheet n n' == so far a number has risen by the terms of pairs of ns that are all different, and by those that are counted of the
+--                           pairs that wait; the former are in the sheet, the latter are not, with the pair whose look is now answered with nothing.
+--                           The number is the counter with the lines that are still to be listed, beginning at those of the whole session
 --
 -- Source: this project.
 use Rattle.std.specs.Prelude.{◌≡◌, ℕ, ◌+◌, ◌<◌, List, [], ◌∷◌, length, map, Option, None, IsSome}
@@ -26,6 +29,7 @@ use Rattle.bs_alone.specs.Sheet.{Sheet, kept}
 use Rattle.bs_eval.specs.Needs.{tree_pair}
 use Rattle.bs_eval.specs.declared.pair.Pair.{Pair}
 use Rattle.bs_session.specs.Needed.{session_need}
+use Rattle.bs_session.specs.Listing.{session_listed}
 use Rattle.bs_session.specs.Counted.{session_begun, session_waited}
 use Rattle.bs_session.specs.Machine.{State}
 
@@ -44,7 +48,7 @@ pub record RisesOnce (script : ScriptLines) (session : SessionLines) (before now
   pub pairs : List (Series × Code)
   pub apart : AreApart (map at_tree pairs)
   pub needed : AllByRecursion (IsOf (session_need script session)) pairs
-  pub risen : now ≡ before + sum_terms pairs
+  pub risen : now ≡ before + (sum_terms pairs + session_listed script session)
 
 -- ---- between two steps
 abbrev pub AreDistinct : List Series → Type 0

@@ -66,7 +66,8 @@ fn compared(codes: &[Code], left: u32, right: u32) -> Answer
 ///
 /// Takes memory for the session's replies, for its trees and their codes, and for the coefficients that it remembers.
 ///
-/// Counts the terms of the coefficients that it works out: no coefficient is worked out twice. Rows of a tree's items, and lines of lists, are not counted.
+/// Counts the terms of the coefficients that it works out, each coefficient once, and the lines of splittings and partitions that it
+/// lists. The making of a tree's rows is not counted.
 pub fn run_session_alone<L: Ledger>(
     alloc: Global,
     script: &Script,

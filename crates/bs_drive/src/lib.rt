@@ -2,5 +2,9 @@
 #![tactic(auto)]
 
 mod alone;
+mod recall;
+mod shared;
+mod trees;
 
 pub use alone::run_session_alone;
+pub use shared::run_session_shared;

@@ -1,9 +1,10 @@
 -- A memory stays right where its catalog grows, and where the book grows; so do the places where values are worked out.
-use Rattle.std.proofs.Common.{◌≡◌, ℕ, ◌<◌, ◌≤◌, List, [], ◌∷◌, length, Some, slice_get, slice_index_or, refl, sym, ◌∙◌, ap, ap₂, subst, arith}
+use Rattle.std.proofs.Common.{◌≡◌, ℕ, ◌<◌, ◌≤◌, List, [], ◌∷◌, map, length, Some, slice_get, slice_index_or, refl, sym, ◌∙◌, ap, ap₂, subst, arith}
 use Rattle.std.proofs.lemmas.Option.{get_or_from_slice_get, slice_get_within, slice_get-get_or}
 use Rattle.bs_frac.specs.declared.coef.Coef.{Coef}
 use Rattle.bs_frac.specs.declared.coef.Coef.TheVariants.{Value}
-use Rattle.bs_tree.specs.Code.{tree_of, IsCode}
+use Rattle.bs_frac.specs.Gathered.{Multiplied, IsProductOf}
+use Rattle.bs_tree.specs.Code.{tree_of, IsCode, child_codes}
 use Rattle.bs_tableau.specs.Table.{Table}
 use Rattle.bs_catalog.specs.Shelf.{Shelf, Numbers, HasSplits, HasParts, Grows}
 use Rattle.bs_series.specs.Series.{Series, exact, identity, average, method, compose, inverse, adjoint, substitute, modified, modifying, scale}
@@ -11,7 +12,7 @@ use Rattle.bs_series.specs.Value.{exact_value}
 use Rattle.bs_series.specs.SeriesCode.{Code, written_at}
 use Rattle.bs_series.specs.Expressions.{series_at, Extends}
 use Rattle.bs_eval.specs.Terms.{code_at, HasRows, IsSpot}
-use Rattle.bs_eval.specs.Values.{IsValue, AreValues, IsMemory}
+use Rattle.bs_eval.specs.Values.{IsValue, IsForestProduct, AreValues, IsMemory}
 use Rattle.bs_eval.specs.declared.plan.Spot.{Spot}
 use Rattle.bs_eval.specs.declared.values.Values.{Values}
 use Rattle.bs_eval.specs.declared.memory.Memory.{Memory}
@@ -34,9 +35,17 @@ value_grows tables es s s' id n v g h = record {
   value = h.value ∙ ap (written_at tables (series_at es id)) (sym (code_stays s s' g n h.tree));
 }
 
+forest_grows : (tables : List Table) (es : List Series) (s s' : Shelf) (id n : ℕ) (x : Multiplied) → Grows s s' → IsForestProduct tables es s.codes id n x → IsForestProduct tables es s'.codes id n x
+forest_grows tables es s s' id n x g h = record {
+  series = h.series;
+  forest = number_grows s s' g n h.forest;
+  product = subst (λ (code : Code). IsProductOf x (map (written_at tables (series_at es id)) (child_codes code))) (sym (code_stays s s' g n h.forest)) h.product;
+}
+
 pub values_grow : (tables : List Table) (es : List Series) (s s' : Shelf) (values : Values) → Grows s s' → AreValues tables es s.codes values → AreValues tables es s'.codes values
 values_grow tables es s s' values g h = record {
   series = λ id n v e. value_grows tables es s s' id n v g (h.series id n v e);
+  forests = λ id n x e. forest_grows tables es s s' id n x g (h.forests id n x e);
   flows = λ n v e. let f = h.flows n v e in
       (number_grows s s' g n f.0, f.1 ∙ ap (λ (code : Code). Value (exact_value (tree_of code))) (sym (code_stays s s' g n f.0)));
 }
@@ -82,9 +91,18 @@ value_extends tables es es' cs id n v x h =
       value = h.value ∙ ap (λ (s : Series). written_at tables s (code_at cs n)) (sym (x.stays id h.series));
     }
 
+forest_extends : (tables : List Table) (es es' : List Series) (cs : List Code) (id n : ℕ) (x : Multiplied) → Extends es es' → IsForestProduct tables es cs id n x → IsForestProduct tables es' cs id n x
+forest_extends tables es es' cs id n x g h =
+    let l = g.grows in let i = h.series in record {
+      series = omega (arith, l, i);
+      forest = h.forest;
+      product = subst (λ (s : Series). IsProductOf x (map (written_at tables s) (child_codes (code_at cs n)))) (sym (g.stays id h.series)) h.product;
+    }
+
 pub values_extend : (tables : List Table) (es es' : List Series) (cs : List Code) (values : Values) → Extends es es' → AreValues tables es cs values → AreValues tables es' cs values
 values_extend tables es es' cs values x h = record {
   series = λ id n v e. value_extends tables es es' cs id n v x (h.series id n v e);
+  forests = λ id n y e. forest_extends tables es es' cs id n y x (h.forests id n y e);
   flows = h.flows;
 }
 

@@ -20,7 +20,7 @@ use Rattle.bs_eval.specs.Steps.{term_step, divisor_steps, plan_steps}
 use Rattle.bs_eval.specs.Terms.{steps_of}
 use Rattle.bs_eval.specs.Frames.{IsReady, IsPlanned}
 use Rattle.bs_eval.proofs.Lists.{all_at}
-use Rattle.bs_eval.proofs.Spreads.{pow_small}
+use Rattle.bs_series.proofs.Averages.{pow_small}
 use Rattle.bs_eval.proofs.Counts.{splits_few, parts_few}
 
 two_parts : {X : Type 0} (P : X → Type 0) (xs ys : List X) → AllByRecursion P (xs ++ ys) → AllByRecursion P xs × AllByRecursion P ys

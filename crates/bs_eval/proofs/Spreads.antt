@@ -1,42 +1,15 @@
 -- The product over the nodes of a tree of one more than the number of their children, by the codes of the root's children.
-use Rattle.std.proofs.Common.{◌≡◌, ℕ, zero, suc, ◌+◌, ◌-◌, ◌*◌, ◌^◌, ◌<◌, ◌≤◌, List, [], ◌∷◌, map, length, drop, Some, slice_get, refl, sym, ◌∙◌, ap, ap₂, subst, arith}
-use Rattle.std.proofs.lemmas.Nat.{pow-add, mul-le}
-use Rattle.bs_frac.proofs.Numbers.{by_cases}
+use Rattle.std.proofs.Common.{◌≡◌, ℕ, zero, suc, ◌+◌, ◌*◌, ◌^◌, ◌<◌, ◌≤◌, List, [], ◌∷◌, map, length, drop, Some, slice_get, refl, sym, ◌∙◌, ap, ap₂, subst, arith}
+use Rattle.std.proofs.lemmas.Nat.{mul-le}
 use Rattle.bs_tree.specs.Tree.{Forest, none, grow, Tree, trees, nodes, order}
-use Rattle.bs_tree.specs.Canonical.{is_above, insert, sorted, canonical_of, canonical_sequence}
+use Rattle.bs_tree.specs.Canonical.{canonical_of, canonical_sequence}
 use Rattle.bs_tree.specs.Code.{tree_of, child_codes, IsCode}
 use Rattle.bs_tree.specs.SubtreeLaws.{tree_of-level_sequence, code_sequence}
 use Rattle.bs_series.specs.Value.{arity, arities}
 use Rattle.bs_series.proofs.Planned.{length-level_sequence}
+use Rattle.bs_series.proofs.Averages.{arity-sorted, arities-sorted, arities-pos, arities_small, pow_small}
 use Rattle.bs_eval.specs.Spread.{tree_spread, spread, spreads}
 use Rattle.bs_eval.proofs.Lists.{drop_next}
-
-arity-insert : (t : Tree) (f : Forest) → arity (insert t f) ≡ suc (arity f)
-arity-insert t none = refl
-arity-insert t (grow d below more) =
-    by_cases (is_above (record { colour = d; below = below }) t)
-    (λ e. rw e (ap suc (arity-insert t more)))
-    (λ e. rw e refl)
-
-swap_first : (a b c : ℕ) → a * (b * c) ≡ b * (a * c)
-swap_first a b c = omega arith
-
-arities-insert : (t : Tree) (f : Forest) → arities (insert t f) ≡ tree_spread t * arities f
-arities-insert t none = refl
-arities-insert t (grow d below more) =
-    by_cases (is_above (record { colour = d; below = below }) t)
-    (λ e. rw e (ap (λ (n : ℕ). suc (arity below) * arities below * n) (arities-insert t more) ∙ swap_first (suc (arity below) * arities below) (tree_spread t) (arities more)))
-    (λ e. rw e refl)
-
-arity-sorted : (f : Forest) → arity (sorted f) ≡ arity f
-arity-sorted none = refl
-arity-sorted (grow c kids rest) = arity-insert (record { colour = c; below = sorted kids }) (sorted rest) ∙ ap suc (arity-sorted rest)
-
-arities-sorted : (f : Forest) → arities (sorted f) ≡ arities f
-arities-sorted none = refl
-arities-sorted (grow c kids rest) =
-    arities-insert (record { colour = c; below = sorted kids }) (sorted rest)
-    ∙ ap₂ (λ (m n : ℕ). m * n) (ap₂ (λ (m n : ℕ). suc m * n) (arity-sorted kids) (arities-sorted kids)) (arities-sorted rest)
 
 child_spread : (t : Tree) → spread (canonical_sequence t) ≡ tree_spread t
 child_spread t = ap tree_spread (tree_of-level_sequence (canonical_of t)) ∙ ap₂ (λ (m n : ℕ). suc m * n) (arity-sorted t.below) (arities-sorted t.below)
@@ -55,11 +28,6 @@ at_first code n e =
     ap₂ (λ (i j : ℕ). i * j) (let z : n ≡ suc (arity (tree_of code).below) = omega arith in z) (children (tree_of code).below)
 
 -- ---- it is small
-arities-pos : (f : Forest) → 0 < arities f
-arities-pos none = omega arith
-arities-pos (grow c kids rest) =
-    mul-le 1 1 (suc (arity kids) * arities kids) (arities rest) (mul-le 1 1 (suc (arity kids)) (arities kids) (omega arith) (arities-pos kids)) (arities-pos rest)
-
 pub spread-pos : (code : List (ℕ × ℕ)) → 0 < spread code
 spread-pos code = let f = (tree_of code).below in mul-le 1 1 (suc (arity f)) (arities f) (omega arith) (arities-pos f)
 
@@ -67,31 +35,9 @@ spreads-pos : (cs : List (List (ℕ × ℕ))) → 0 < spreads cs
 spreads-pos [] = omega arith
 spreads-pos (c ∷ cs) = mul-le 1 1 (spread c) (spreads cs) (spread-pos c) (spreads-pos cs)
 
-double : (a k r : ℕ) → suc (suc a) * (k * r) ≤ k * (2 * (suc a * r))
-double a k r =
-    let e : k * (2 * (suc a * r)) ≡ suc (suc a) * (k * r) + a * (k * r) = omega arith in
-    subst (λ (m : ℕ). suc (suc a) * (k * r) ≤ m) (sym e) (omega arith)
-
-spread_small : (f : Forest) → suc (arity f) * arities f ≤ 2 ^ nodes f
-spread_small none = omega arith
-spread_small (grow c kids rest) =
-    let k = suc (arity kids) * arities kids in
-    let a = double (arity rest) k (arities rest) in
-    let b : k * (2 * (suc (arity rest) * arities rest)) ≤ 2 ^ nodes kids * (2 * 2 ^ nodes rest) = mul-le k (2 * (suc (arity rest) * arities rest)) (2 ^ nodes kids) (2 * 2 ^ nodes rest) (spread_small kids) (mul-le 2 (suc (arity rest) * arities rest) 2 (2 ^ nodes rest) (omega arith) (spread_small rest)) in
-    let e : 2 ^ (suc (nodes kids) + nodes rest) ≡ 2 ^ nodes kids * (2 * 2 ^ nodes rest) = pow-add 2 (suc (nodes kids)) (nodes rest) ∙ (let z : 2 ^ suc (nodes kids) ≡ 2 ^ nodes kids * 2 = ap (λ (n : ℕ). 2 ^ n) (let y : suc (nodes kids) ≡ nodes kids + 1 = omega arith in y) ∙ pow-add 2 (nodes kids) 1 in ap (λ (n : ℕ). n * 2 ^ nodes rest) z ∙ (let y : 2 ^ nodes kids * 2 * 2 ^ nodes rest ≡ 2 ^ nodes kids * (2 * 2 ^ nodes rest) = omega arith in y)) in
-    subst (λ (m : ℕ). suc (suc (arity rest)) * (k * arities rest) ≤ m) (sym e) (omega (arith, a, b))
-
-pub pow_small : (n : ℕ) → n < 17 → 2 ^ n ≤ 2 ^ 16
-pow_small n h = let e = pow-add 2 n (16 - n) in let z : n + (16 - n) ≡ 16 = omega arith in
-    subst (λ (m : ℕ). 2 ^ n ≤ 2 ^ m) z (subst (λ (m : ℕ). 2 ^ n ≤ m) (sym e) (let p = mul-le (2 ^ n) 1 (2 ^ n) (2 ^ (16 - n)) (omega arith) (one_le (16 - n)) in omega (arith, p)))
-  where
-    one_le : (m : ℕ) → 1 ≤ 2 ^ m
-    one_le zero = omega arith
-    one_le (suc m) = let h = one_le m in let e = pow-add 2 1 m in omega (arith, h, e)
-
 pub code_small : (code : List (ℕ × ℕ)) → IsCode code → spread code ≤ 2 ^ 16
 code_small code is =
-    let a = spread_small (tree_of code).below in
+    let a = arities_small (tree_of code).below in
     let b = pow_small (nodes (tree_of code).below) (let e : length code ≡ order (tree_of code) = ap length (sym (code_sequence code is)) ∙ length-level_sequence (tree_of code) in omega (arith, e, is.small)) in
     omega (arith, a, b)
 

@@ -2,6 +2,7 @@
 
 ghost use Rattle.std.specs.Prelude.{◌≡◌, ◌<◌, ◌*◌, List, length, suc, MatchOption};
 ghost use Rattle.bs_frac.specs.declared.coef.Coef.TheVariants.{Value};
+ghost use Rattle.bs_frac.specs.Written.{checked};
 ghost use Rattle.bs_tree.specs.Code.{tree_of};
 ghost use Rattle.bs_tableau.specs.Table.{Table};
 ghost use Rattle.bs_series.specs.Value.{unit_fraction, exact_value, average_value, arity, arities};
@@ -43,10 +44,11 @@ fn arities(code: &Code) -> u64
     product
 }
 
-/// The coefficient of the average vector field method.
+/// The coefficient of the average vector field method: 1 over that product.
 fn average_value(code: &Code) -> Coef
-    ensures { result ≡ Value (average_value (tree_of code.now)) }
+    ensures { result ≡ average_value checked (tree_of code.now) }
 {
+    let _order = code.order();
     unit_fraction(arities(code))
 }
 

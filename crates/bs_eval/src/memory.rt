@@ -1,8 +1,8 @@
 //! What the evaluations over one book leave behind: trees by number with their rows, and values.
 
-ghost use Rattle.std.specs.Prelude.{◌≡◌, ◌<◌, List, length, IfOk, OnOk};
+ghost use Rattle.std.specs.Prelude.{◌≡◌, ◌<◌, List, length, IfOk, OnOk, MatchOption};
 ghost use Rattle.bs_tableau.specs.Table.{Table};
-ghost use Rattle.bs_catalog.specs.Shelf.{Numbers, Grows};
+ghost use Rattle.bs_catalog.specs.Shelf.{Numbers, Grows, HasSplits, HasParts};
 ghost use Rattle.bs_series.specs.Series.{Series};
 ghost use Rattle.bs_series.specs.Expressions.{series_at};
 ghost use Rattle.bs_series.specs.SeriesCode.{Code as Pairs, IsColouredCode};
@@ -10,13 +10,14 @@ ghost use Rattle.bs_frac.specs.Written.{checked};
 ghost use Rattle.bs_tree.specs.Code.{tree_of};
 ghost use Rattle.bs_tableau.specs.WrittenWeight.{written_weight};
 ghost use Rattle.bs_eval.specs.Terms.{code_at, HasRows, IsSpot};
+ghost use Rattle.bs_eval.specs.Pairs.{IsLooked};
 ghost use Rattle.bs_eval.specs.Values.{IsMemory};
 
 use crate::factor::Wanted;
 use crate::pair::Pair;
 use crate::plan::Spot;
 use crate::table_weights::TableWeights;
-use crate::values::Values;
+use crate::values::{Readers, Values};
 use bs_catalog::Catalog;
 use bs_frac::Coef;
 use bs_series::{Book, Kind, SeriesId};
@@ -88,8 +89,21 @@ impl Memory {
         Ok(Spot { series, tree, leaf })
     }
 
-    /// The rows of a tree that are wanted where a value of the series is worked out.
+    /// The rows of a tree that are wanted where a value of the series is worked out, gathered where the plan has a leap over them.
     fn make_rows(&mut self, book: &Book, series: SeriesId, tree: u32) -> Result<(), AllocError>
+        requires known { series < length book.now }
+        requires tree { tree < length self.old.trees.codes }
+        ensures grows { Grows self.old.trees self.new.trees }
+        ensures values { self.new.values ≡ self.old.values }
+        ensures made { OnOk result (HasRows (series_at book.now series) self.new.trees tree) }
+    {
+        self.list_rows(book, series, tree)?;
+        self.gather_rows(book, series, tree);
+        Ok(())
+    }
+
+    /// The rows of a tree that are wanted where a value of the series is worked out.
+    fn list_rows(&mut self, book: &Book, series: SeriesId, tree: u32) -> Result<(), AllocError>
         requires known { series < length book.now }
         requires tree { tree < length self.old.trees.codes }
         ensures grows { Grows self.old.trees self.new.trees }
@@ -107,7 +121,101 @@ impl Memory {
             | Kind::Identity { .. }
             | Kind::Average { .. }
             | Kind::Method { .. }
-            | Kind::Scale { .. } => Ok(())
+            | Kind::Scale { .. } => Ok(()),
         }
+    }
+
+    /// Gathers these rows where all values at their trees are at hand, unless memory is wanted.
+    fn gather_rows(&mut self, book: &Book, series: SeriesId, tree: u32)
+        requires known { series < length book.now }
+        requires rows { HasRows (series_at book.now series) self.old.trees tree }
+        ensures grows { Grows self.old.trees self.new.trees }
+        ensures values { self.new.values ≡ self.old.values }
+    {
+        match book.kind(series) {
+            Kind::Compose { first, second } => self.gather_splits(
+                &Readers {
+                    outer: awaited(book, second),
+                    inner: awaited(book, first),
+                },
+                tree,
+            ),
+            Kind::Inverse { of } => self.gather_splits(
+                &Readers {
+                    outer: Some(series),
+                    inner: awaited(book, of),
+                },
+                tree,
+            ),
+            Kind::Substitute { inner, outer } => self.gather_parts(
+                &Readers {
+                    outer: awaited(book, outer),
+                    inner: awaited(book, inner),
+                },
+                tree,
+            ),
+            Kind::Modified { .. } => self.gather_parts(
+                &Readers {
+                    outer: None,
+                    inner: Some(series),
+                },
+                tree,
+            ),
+            Kind::Modifying { of } => self.gather_parts(
+                &Readers {
+                    outer: awaited(book, of),
+                    inner: Some(series),
+                },
+                tree,
+            ),
+            Kind::Adjoint { .. }
+            | Kind::Exact { .. }
+            | Kind::Identity { .. }
+            | Kind::Average { .. }
+            | Kind::Method { .. }
+            | Kind::Scale { .. } => {}
+        }
+    }
+
+    /// Gathers the splittings of a tree but the last, where all values at their trees are at hand.
+    fn gather_splits(&mut self, readers: &Readers, tree: u32)
+        requires { HasSplits self.old.trees tree }
+        ensures grows { Grows self.old.trees self.new.trees }
+        ensures values { self.new.values ≡ self.old.values }
+    {
+        let rows = self.trees.splits(tree);
+        if self.values.have_rows(readers, rows, 0, rows.len() - 1) {
+            let _done = self.trees.gather_splits(tree);
+        }
+    }
+
+    /// Gathers the partitions of a tree but the first, where all values at their trees are at hand.
+    fn gather_parts(&mut self, readers: &Readers, tree: u32)
+        requires { HasParts self.old.trees tree }
+        ensures grows { Grows self.old.trees self.new.trees }
+        ensures values { self.new.values ≡ self.old.values }
+    {
+        let rows = self.trees.parts(tree);
+        if self.values.have_rows(readers, rows, 1, rows.len()) {
+            let _done = self.trees.gather_parts(tree);
+        }
+    }
+}
+
+/// The series, unless its values are given by a formula.
+fn awaited(book: &Book, series: SeriesId) -> Option<SeriesId>
+    requires { series < length book.now }
+    ensures { MatchOption result (¬ IsLooked (series_at book.now series)) (λ id. id ≡ series) }
+{
+    match book.kind(series) {
+        Kind::Exact { .. } | Kind::Identity { .. } | Kind::Average { .. } => None,
+        Kind::Method { .. }
+        | Kind::Compose { .. }
+        | Kind::Inverse { .. }
+        | Kind::Adjoint { .. }
+        | Kind::Substitute { .. }
+        | Kind::Modified { .. }
+        | Kind::Modifying { .. }
+        | Kind::Scale { .. } => Some(series),
     }
 }

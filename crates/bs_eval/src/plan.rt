@@ -138,7 +138,7 @@ impl PartRule {
     }
 
     /// The factor at the skeleton.
-    fn outer_factor(&self, tree: u32) -> Factor
+    pub(crate) fn outer_factor(&self, tree: u32) -> Factor
         ensures is { (es : List Series) (cs : List Pairs) → factor_in es cs result ≡ at (outer_in es self.now.outer) (code_at cs tree) }
         ensures known { (n m : ℕ) → OuterIn n self.now.outer → tree < m → FactorIn n m result }
     {

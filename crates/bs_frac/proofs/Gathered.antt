@@ -268,7 +268,7 @@ module _ (n : ℕ) where
   all_fit [] h = tt
   all_fit (t ∷ ts) h = (h.0, all_fit ts h.1)
 
-  fits_keeps : (ps rs : List (Term Fraction)) → IsPermutation ps rs → AllTermsFit n ps → AllTermsFit n rs
+  pub fits_keeps : (ps rs : List (Term Fraction)) → IsPermutation ps rs → AllTermsFit n ps → AllTermsFit n rs
   fits_keeps ps rs h k =
       all_fit rs (recursion_from_All (TermFits n) rs (All-permutation (TermFits n) ps rs h (All-from_recursion (TermFits n) ps (each_fits ps k))))
 

@@ -12,8 +12,13 @@
 --   term_of negative values  == the term that adds, or subtracts, the product of the values
 --   Gathers z w terms        == w is what comes of the number z and of the terms
 --
+--   AlikeTerms ts us         == term by term the same sign, and the same values in whatever order
+--   AnyOrderOfFactors        == a product is that of its values in any order
+--   AnyOrderOfTerms          == what comes of terms comes of them in any order, the values of each in any order
+--
 -- Source: this project. The numerators of a sum may be gathered in any order, the written one is nothing to their total.
-use Rattle.std.specs.Prelude.{◌≡◌, ℕ, ◌+◌, ◌*◌, ◌/◌, ◌≤◌, Bool, true, false, ℤ, pos, ◌+ℤ◌, ◌*ℤ◌, neg_ℤ, unsigned_abs, List, map}
+use Rattle.std.specs.Prelude.{◌≡◌, ℕ, ◌+◌, ◌*◌, ◌/◌, ◌≤◌, Bool, true, false, ℤ, pos, ◌+ℤ◌, ◌*ℤ◌, neg_ℤ, unsigned_abs, List, [], ◌∷◌, map}
+use Rattle.std.specs.List.Sorted.{IsPermutation}
 use Rattle.bs_frac.specs.Gcd.{gcd}
 use Rattle.bs_frac.specs.Fraction.{Fraction}
 use Rattle.bs_frac.specs.Checked.{largest}
@@ -79,3 +84,22 @@ pub record Gathers (z : Coef) (w : Total) (terms : List (Term Coef)) : Type 0 wh
   pub fit : AllTermsFit w.over quotients
   pub top : w.top ≡ start +ℤ total_top w.over quotients
   pub magnitude : w.magnitude ≡ unsigned_abs start + magnitudes w.over quotients
+
+-- ---- another order
+abbrev pub AlikeTerm : Term Coef → Term Coef → Type 0
+AlikeTerm (add us) (add vs) = IsPermutation us vs
+AlikeTerm (add us) (subtract vs) = ⊥
+AlikeTerm (subtract us) (add vs) = ⊥
+AlikeTerm (subtract us) (subtract vs) = IsPermutation us vs
+
+abbrev pub AlikeTerms : List (Term Coef) → List (Term Coef) → Type 0
+AlikeTerms [] [] = Unit {0}
+AlikeTerms [] (u ∷ us) = ⊥
+AlikeTerms (t ∷ ts) [] = ⊥
+AlikeTerms (t ∷ ts) (u ∷ us) = AlikeTerm t u × AlikeTerms ts us
+
+abbrev pub AnyOrderOfFactors : Type 0
+AnyOrderOfFactors = (x : Multiplied) (us vs : List Coef) → IsProductOf x us → IsPermutation us vs → IsProductOf x vs
+
+abbrev pub AnyOrderOfTerms : Type 0
+AnyOrderOfTerms = (z : Coef) (w : Total) (terms ts us : List (Term Coef)) → Gathers z w terms → IsPermutation terms ts → AlikeTerms ts us → Gathers z w us

@@ -9,16 +9,17 @@
 --
 --   Writing                  == a sink: the bytes written, how many it has room for, the most that a call takes, the
 --                               numbers of the writes that fail, how many writes there were so far, the length at the
---                               last flush, and how many faults there were so far
+--                               last flush, whether each flush fails, and how many faults there were so far
 --   WriteFails s piece       == the next write of this piece fails: its number is listed, or the sink is full and the
 --                               piece isn't empty
 --   write_count s size       == how many bytes the next write takes, of a piece of this size
 --   after_write s taken      == the sink after a write that took these bytes
 --   after_write_fault s      == the sink after a write that failed
+--   after_flush_fault s      == the sink after a flush that failed
 --
 -- Source: this project.
 -- The code keeps the bytes of a source whole, with the place that was reached.
-use Rattle.std.specs.Prelude.{◌≡◌, ℕ, ◌-◌, ◌<◌, ◌⊎◌, min, List, ◌++◌, length, drop, Contains}
+use Rattle.std.specs.Prelude.{◌≡◌, ℕ, ◌-◌, ◌<◌, ◌⊎◌, min, Bool, List, ◌++◌, length, drop, Contains}
 use Rattle.bs_io.specs.Outside.{one_more}
 
 pub record Reading : Type 0 where
@@ -47,6 +48,7 @@ pub record Writing : Type 0 where
   pub fails : List ℕ
   pub calls : ℕ
   pub flushed : ℕ
+  pub cannot_flush : Bool
   pub faults : ℕ
 
 abbrev pub WriteFails : Writing → List ℕ → Type 0
@@ -60,3 +62,6 @@ after_write s taken = record s { bytes = s.bytes ++ taken; calls = one_more s.ca
 
 abbrev pub after_write_fault : Writing → Writing
 after_write_fault s = record s { calls = one_more s.calls; faults = one_more s.faults }
+
+abbrev pub after_flush_fault : Writing → Writing
+after_flush_fault s = record s { faults = one_more s.faults }

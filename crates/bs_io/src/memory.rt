@@ -2,8 +2,8 @@
 //!
 //! A contract sees a `MemSource` as a `Reading` and a `MemSink` as a `Writing`.
 
-ghost use Rattle.std.specs.Prelude.{◌≡◌, ◌≢◌, ◌↔◌, ◌<◌, ◌≤◌, [], length, take, Some, IfOk, OnErr, IsOk, IsErr};
-ghost use Rattle.bs_io.specs.InMemory.{ReadFails, read_count, after_read, after_read_fault, WriteFails, write_count, after_write, after_write_fault};
+ghost use Rattle.std.specs.Prelude.{◌≡◌, ◌≢◌, ◌↔◌, ◌<◌, ◌≤◌, [], length, take, Some, false, true, IfOk, OnOk, OnErr, IsErr};
+ghost use Rattle.bs_io.specs.InMemory.{ReadFails, read_count, after_read, after_read_fault, WriteFails, write_count, after_write, after_write_fault, after_flush_fault};
 
 use crate::count::{is_listed, raised};
 use crate::{Failed, Sink, Source};
@@ -87,6 +87,7 @@ pub struct MemSink {
     fails: Vec<u64>,
     calls: u64,
     flushed: usize,
+    cannot_flush: bool,
     faults: u64,
 }
 
@@ -96,7 +97,7 @@ impl Model for MemSink {
 
     ghost Value = { Writing };
 
-    ghost view = { λ s. record { bytes = s.bytes.items; room = s.room; step = s.step; fails = s.fails.items; calls = s.calls; flushed = s.flushed; faults = s.faults } };
+    ghost view = { λ s. record { bytes = s.bytes.items; room = s.room; step = s.step; fails = s.fails.items; calls = s.calls; flushed = s.flushed; cannot_flush = s.cannot_flush; faults = s.faults } };
 
     ghost invariant = { λ s. (vec_len s.bytes ≤ s.room) × (s.room ≤ vec_capacity s.bytes) × (0 < s.step) };
 }
@@ -111,7 +112,7 @@ impl MemSink {
         fails: Vec<u64>,
     ) -> Result<MemSink, AllocError>
         requires { step ≢ 0 }
-        ensures { IfOk result (λ s. s ≡ record { bytes = []; room = room; step = step; fails = fails.items; calls = 0; flushed = 0; faults = 0 }) }
+        ensures { IfOk result (λ s. s ≡ record { bytes = []; room = room; step = step; fails = fails.items; calls = 0; flushed = 0; cannot_flush = false; faults = 0 }) }
     {
         Ok(MemSink {
             bytes: Vec::with_capacity(alloc, room)?,
@@ -120,8 +121,16 @@ impl MemSink {
             fails,
             calls: 0,
             flushed: 0,
+            cannot_flush: false,
             faults: 0,
         })
+    }
+
+    /// Each flush fails from then on.
+    pub fn fail_flush(&mut self)
+        ensures { self.new ≡ record self.old { cannot_flush = true } }
+    {
+        self.cannot_flush = true;
     }
 
     /// The bytes that it took.
@@ -160,11 +169,17 @@ impl Sink for MemSink {
         Ok(n)
     }
 
-    /// Always answers `Ok`.
+    /// Fails exactly behind `fail_flush`.
     fn flush(&mut self) -> Result<(), Failed>
-        ensures succeeds { IsOk result }
-        ensures after { self.new ≡ record self.old { flushed = length self.old.bytes } }
+        ensures fails { IsErr result ↔ (self.old.cannot_flush ≡ true) }
+        ensures after { OnOk result (self.new ≡ record self.old { flushed = length self.old.bytes }) }
+        ensures after_fault { OnErr result (self.new ≡ after_flush_fault self.old) }
+        ensures never_falls { self.old.faults ≤ self.new.faults }
     {
+        if self.cannot_flush {
+            self.faults = raised(self.faults);
+            return Err(Failed);
+        }
         self.flushed = self.bytes.len();
         Ok(())
     }

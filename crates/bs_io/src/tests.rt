@@ -94,6 +94,18 @@ fn a_sink_is_full(rt: HostRuntime) -> Result<(), Fail> {
 }
 
 #[test]
+fn a_sink_that_cannot_flush(rt: HostRuntime) -> Result<(), Fail> {
+    let alloc = rt.alloc();
+    let mut sink = MemSink::new(alloc, 9, 9, Vec::new(alloc))?;
+    assert_eq!(rt; sink.flush(), Ok(()));
+    sink.fail_flush();
+    assert_eq!(rt; write_all(&mut sink, b"session 1"), Ok(()));
+    assert_eq!(rt; sink.flush(), Err(Failed));
+    assert_eq!(rt; sink.bytes(), b"session 1".as_slice());
+    Ok(())
+}
+
+#[test]
 fn streams_of_the_system(rt: HostRuntime) -> Result<(), Fail> {
     let mut source = StdSource::new(FailsOnce { has_failed: false });
     let mut buf = [0; 4];

@@ -1,8 +1,17 @@
--- A text with more behind it, and with a line more for each item of a list.
-use Rattle.std.proofs.Common.{◌≡◌, ℕ, zero, suc, ◌+◌, List, [], ◌∷◌, ◌++◌, map, take, length, Some, Result, Ok, Err, OnOk, OnErr, if◌then◌else◌, is_ok, sym, ◌∙◌, ap, add-one, append_assoc, append-nil}
+-- A text with more behind it, and with a line more for each item of a list. How many lines there are.
+use Rattle.std.proofs.Common.{◌≡◌, ℕ, zero, suc, ◌+◌, ◌*◌, arith, List, [], ◌∷◌, ◌++◌, map, take, length, Some, Result, Ok, Err, OnOk, OnErr, if◌then◌else◌, is_ok, sym, ◌∙◌, ap, add-one, append_assoc, append-nil}
 use Rattle.std.specs.List.{slice_get, flat_map}
 use Rattle.std.proofs.Math.Seq.{take-append_seam}
 use Rattle.bs_listing.specs.Texts.{IsFront}
+
+-- ---- one more row of n lines
+pub row_more : (i n : ℕ) → (i + 1) * n ≡ i * n + n
+row_more i n = let e : (i + 1) * n ≡ suc i * n = ap (λ (m : ℕ). m * n) (add-one i) in omega (arith, e)
+
+-- what holds holds where all went well
+pub on_ok_any : {A E P : Type 0} (r : Result A E) → P → OnOk r P
+on_ok_any (Ok y) h = h
+on_ok_any (Err y) h = tt
 
 -- ---- fronts
 pub front_refl : (a : List ℕ) → IsFront a a

@@ -1,8 +1,13 @@
 //! Lists of trees: worked ones, and those of another program written from the format alone.
 
+ghost use Rattle.std.specs.Prelude.{◌≡◌, ◌<◌};
+
 use crate::{write_partitions, write_splits};
+use bs_steps::Steps;
 use bs_tree::Code;
-use std::alloc::Global;
+use std::alloc::{AllocError, Global};
+use std::marker::Brand;
+use std::sync::ledger::{Blank, Ledger};
 use std::test::Fail;
 
 /// The code of these levels and colours, a digit each.
@@ -16,15 +21,37 @@ fn code_of(alloc: Global, levels: &str, colours: &str) -> Result<Code, Fail> {
 
 /// The list of the splittings of a tree.
 fn splits(alloc: Global, levels: &str, colours: &str) -> Result<Vec<u8>, Fail> {
+    let code = code_of(alloc, levels, colours)?;
+    Ok(counted_splits::<Brand>(alloc, code, Blank::new(1))?)
+}
+
+fn counted_splits<L: Ledger>(alloc: Global, code: Code, blank: Blank) -> Result<Vec<u8>, AllocError>
+    requires name { blank.name ≡ L.name }
+    requires parts { blank.parts ≡ L.parts }
+    requires some { 0 < blank.parts }
+{
     let mut out = Vec::new(alloc);
-    write_splits(&mut out, code_of(alloc, levels, colours)?)?;
+    write_splits(&mut out, code, &mut Steps::<L>::new(blank))?;
     Ok(out)
 }
 
 /// The list of its partitions.
 fn partitions(alloc: Global, levels: &str, colours: &str) -> Result<Vec<u8>, Fail> {
+    let code = code_of(alloc, levels, colours)?;
+    Ok(counted_partitions::<Brand>(alloc, code, Blank::new(1))?)
+}
+
+fn counted_partitions<L: Ledger>(
+    alloc: Global,
+    code: Code,
+    blank: Blank,
+) -> Result<Vec<u8>, AllocError>
+    requires name { blank.name ≡ L.name }
+    requires parts { blank.parts ≡ L.parts }
+    requires some { 0 < blank.parts }
+{
     let mut out = Vec::new(alloc);
-    write_partitions(&mut out, code_of(alloc, levels, colours)?)?;
+    write_partitions(&mut out, code, &mut Steps::<L>::new(blank))?;
     Ok(out)
 }
 

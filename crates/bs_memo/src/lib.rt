@@ -7,6 +7,8 @@ mod key;
 pub mod laws;
 mod memo;
 mod stripe;
+#[cfg(test)]
+mod tests;
 
 pub use key::MemoKey;
 pub use memo::{Memo, MemoRefused};

@@ -231,6 +231,13 @@ impl<'t, N: MemoName> Memo<'t, N> {
         }
     }
 
+    /// How many entries its stripes have room for, all together. Takes no memory.
+    pub fn capacity(&self) -> usize
+        ensures { result ≡ self.now.capacity }
+    {
+        self.capacity
+    }
+
     /// The tableaux that its values are over.
     pub fn tables(&self) -> &'t [Tableau]
         ensures { result.now ≡ N.tables }

@@ -11,6 +11,9 @@
 --   codes_of p      == an item with the canonical sequences of its trees
 --   part_codes s    == the partitions of the tree that a code describes, so written
 --
+-- Nodes are taken in preorder as they come. Of a canonical tree, which each code describes, that is the preorder of the canonical
+-- sequence; the trees of an item are canonical for any tree.
+--
 -- Source: Chartier, Hairer and Vilmart (2010), partitions and skeletons, in the substitution law; the order of the list is this project's.
 -- The code walks one mask over the canonical sequence, in place of this recursion.
 use Rattle.std.specs.Prelude.{ℕ, List, [], ◌∷◌, ◌++◌, map}

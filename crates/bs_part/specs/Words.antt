@@ -4,6 +4,9 @@
 --   pieces_by f w     == the edges whose letter is keep stay, each other one is cut
 --   parts_by_words t  == one item for each word, in the order of the words
 --
+-- What one kept and one cut edge do to the pieces below a node is taken over from the first definition (`keep_edge`, `cut_edge`);
+-- of its own this list has that an item is a word, and the order of the words.
+--
 -- Source: this project's own.
 use Rattle.std.specs.Prelude.{◌≡◌, ℕ, zero, suc, List, [], ◌∷◌, ◌++◌, map, take, drop, Bool, true, false, cond, refl}
 use Rattle.bs_tree.specs.Tree.{Forest, none, grow, Tree, nodes}

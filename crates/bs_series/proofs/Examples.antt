@@ -82,6 +82,7 @@ unfolding gcd sum_gcd sum_left sum_right sum_top sum_common sum_bottom cross_gcd
 two_halves = refl
 
 average_cherry : written [] (average 1) cherry ≡ ratio (pos 1) 3
+unfolding gcd sum_gcd sum_left sum_right sum_top sum_common sum_bottom cross_gcd product_top product_bottom
 average_cherry = refl
 
 -- the exact flow put into the exact flow

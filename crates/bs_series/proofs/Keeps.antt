@@ -1,5 +1,5 @@
 -- A relation that the operations keep is kept by every series.
-use Rattle.std.proofs.Common.{ℕ, suc, zero, ◌*◌, ◌<◌, Option, Some, None, replicate, arith, mul-pos}
+use Rattle.std.proofs.Common.{ℕ, suc, zero, ◌∙◌, Option, Some, None, replicate, arith}
 use Rattle.bs_frac.specs.Fraction.{IsReduced, whole}
 use Rattle.bs_frac.specs.Written.{Arithmetic}
 use Rattle.bs_tree.specs.Tree.{Forest, none, grow, Tree, order}
@@ -7,24 +7,20 @@ use Rattle.bs_tree.specs.Numbers.{density}
 use Rattle.bs_split.specs.Splitting.{Split, splits, init}
 use Rattle.bs_part.specs.Partition.{Part, parts, leaf, tail}
 use Rattle.bs_series.specs.Series.{Series, exact, identity, method, compose, inverse, adjoint, average, substitute, modified, modifying, scale, empty_value}
-use Rattle.bs_series.specs.Value.{within, at_kept, split_term, part_term, inverse_step, inverse_of, signed_by, solved_step, exact_value, average_value, arity, arities, valued}
+use Rattle.bs_series.specs.Value.{within, at_kept, split_term, part_term, inverse_step, inverse_of, signed_by, solved_step, exact_value, average_values, arity, valued}
 use Rattle.bs_frac.proofs.Products.{zero_reduced, one_reduced}
 use Rattle.bs_series.proofs.Solved.{exact_fraction}
 use Rattle.std.specs.List.{fold}
 use Rattle.bs_frac.specs.Written.{Keeps}
 use Rattle.bs_frac.proofs.WrittenSums.{keeps_fold_map}
-use Rattle.bs_frac.proofs.GcdLaws.{gcd-one}
+use Rattle.bs_frac.proofs.GcdLaws.{gcd-one, gcd-swap}
 use Rattle.bs_series.specs.Laws.{HasReducedFactors}
 
 exact_reduced : (t : Tree) → IsReduced (exact_value t)
 exact_reduced t = record { positive = exact_fraction t; coprime = gcd-one (density t) }
 
-average_pos : (f : Forest) → 0 < arities f
-average_pos none = omega arith
-average_pos (grow c kids rest) = mul-pos (mul-pos (omega arith) (average_pos kids)) (average_pos rest)
-
-average_reduced : (t : Tree) → IsReduced (average_value t)
-average_reduced t = record { positive = mul-pos (omega arith) (average_pos t.below); coprime = gcd-one (suc (arity t.below) * arities t.below) }
+whole_reduced : (n : ℕ) → IsReduced (whole n)
+whole_reduced n = record { positive = omega arith; coprime = gcd-swap n 1 ∙ gcd-one n }
 
 module _ (A B : Arithmetic) (R : A.Number → B.Number → Type 0) (k : Keeps A B R) where
   one : R (A.of (whole 1)) (B.of (whole 1))
@@ -38,6 +34,16 @@ module _ (A B : Arithmetic) (R : A.Number → B.Number → Type 0) (k : Keeps A 
       → (n : ℕ) (t : Tree) → R (within n z f t) (within n w g t)
   keeps_within z w f g e h zero t = e
   keeps_within z w f g e h (suc n) t = h (within n z f) (within n w g) (λ u. keeps_within z w f g e h n u) t
+
+  -- ---- the average vector field method
+  child_numbers : (n : ℕ) → R (A.of (whole (suc n))) (B.of (whole (suc n)))
+  child_numbers n = k.of (whole (suc n)) (whole_reduced (suc n))
+
+  keeps_averages : (f : Forest) (z : A.Number) (w : B.Number) → R z w → R (fold A.product z (average_values A f)) (fold B.product w (average_values B f))
+  keeps_averages none z w e = e
+  keeps_averages (grow c kids rest) z w e =
+      keeps_averages rest _ _ (k.product z _ w _ e
+      (k.quotient (fold A.product (A.of (whole 1)) (average_values A kids)) _ (fold B.product (B.of (whole 1)) (average_values B kids)) _ (keeps_averages kids _ _ one) (child_numbers (arity kids))))
 
   module _ (a : Tree → A.Number) (a' : Tree → B.Number) (ha : (t : Tree) → R (a t) (a' t)) where
     keeps_split : (z : A.Number) (w : B.Number) → R z w → (b : Tree → A.Number) (b' : Tree → B.Number) → ((t : Tree) → R (b t) (b' t))
@@ -92,7 +98,8 @@ module _ (A B : Arithmetic) (R : A.Number → B.Number → Type 0) (k : Keeps A 
         turn : (n : ℕ) (x : A.Number) (y : B.Number) → R x y → R (signed_by A n x) (signed_by B n y)
         turn zero x y h = h
         turn (suc n) x y h = k.opposite (signed_by A n x) (signed_by B n y) (turn n x y h)
-    keeps_value (average c) m t = k.of (average_value t) (average_reduced t)
+    keeps_value (average c) m t =
+        k.quotient (fold A.product (A.of (whole 1)) (average_values A t.below)) _ (fold B.product (B.of (whole 1)) (average_values B t.below)) _ (keeps_averages t.below _ _ one) (child_numbers (arity t.below))
     keeps_value (substitute b a) m t =
         keeps_fold_map A B R A.sum B.sum k.sum (part_term A (valued A weight a) (valued A weight b)) (part_term B (valued B weight' a) (valued B weight' b))
         (keeps_part (valued A weight a) (valued B weight' a) (λ u. keeps_value a m.1 u) (valued A weight b) (valued B weight' b) (λ u. keeps_value b m.0 u))

@@ -8,6 +8,11 @@ pub mod Below
 pub mod Items
 pub mod Needs
 pub mod Keeps
+pub mod Averages
+pub mod Shuffles
+pub mod Shuffled
+pub mod Everywhere
+pub mod Isomorphic
 pub mod Adjoint
 pub mod Signs
 pub mod Written

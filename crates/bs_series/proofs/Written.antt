@@ -32,7 +32,7 @@ row_or_none s [] r h = tt
 row_or_none s (x ∷ xs) zero h = h.0.reduced
 row_or_none s (x ∷ xs) (suc r) h = row_or_none s xs r h.1
 
-entry_reduced : (t : Table) → IsBegun t → (r j : ℕ) → IsReduced (entry t.rows r j)
+pub entry_reduced : (t : Table) → IsBegun t → (r j : ℕ) → IsReduced (entry t.rows r j)
 entry_reduced t h r j = at_or_zero (get_or t.rows r []) j (row_or_none t.stages t.rows r h.each)
 
 -- ---- the written weight agrees with the elementary weight

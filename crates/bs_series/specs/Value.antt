@@ -8,7 +8,10 @@
 --   solution start step t == the value at t of a rule that reads values at smaller trees, applied |t| times
 --   unit_fraction n      == 1/n
 --   exact_value t        == 1/γ(t)
---   average_value t      == the product over the nodes of 1 over one more than the number of their children
+--   average_values A f   == the coefficients of the average vector field method at the trees of a list
+--   average_value A t    == the children's coefficients multiplied, and divided by one more than the number of children
+--   over_arities t       == 1 over the product, over all nodes, of one more than the number of their children; a law says
+--                           that it is the coefficient of the average vector field method
 --   split_term a e b s   == b at what is kept (e where nothing is) times a at each tree of the forest
 --   part_term a b p      == a at the skeleton times b at each part
 --   composed a e b t     == the sum over the splittings of t of their terms: first a, then b
@@ -20,12 +23,15 @@
 --   modified_of a, modifying_of a == the solutions of that rule, with o the exact flow; with o = a, divided by a(leaf)
 --   scaled a c t         == a(t) times c, |t| times
 --
+-- Lists and products take the children of a tree as they come: of a canonical tree, which each code describes, in canonical order.
+-- Over `exactly` that order does not matter: laws say so.
 -- Sums begin at 0 and products at 1; each is taken from the left, in the order of the lists of splittings and partitions.
 -- Over `checked` an Overflow anywhere is an Overflow.
 --
 -- Source: Chartier, Hairer and Vilmart (2010), the composition law, the substitution law and the modified equations; Butcher
--- (2021) for the exact flow and the average vector field method. The order of the terms is this project's.
--- The code evaluates one term at a time and keeps each value once.
+-- (2021) for the exact flow; Celledoni and others (2009) for the average vector field method. The order of the terms is this
+-- project's.
+-- The code evaluates one term at a time and keeps each value once; it finds the average vector field method's by its product.
 use Rattle.std.specs.Prelude.{ℕ, zero, suc, ◌*◌, List, [], ◌∷◌, map, replicate, Option, Some, None, pos, slice_index_or}
 use Rattle.bs_frac.specs.Fraction.{Fraction, whole}
 use Rattle.bs_frac.specs.Written.{Arithmetic, exactly, checked, product_all, sum_onto, less_all}
@@ -63,10 +69,18 @@ abbrev pub arities : Forest → ℕ
 arities none = 1
 arities (grow c kids rest) = suc (arity kids) * arities kids * arities rest
 
-abbrev pub average_value : Tree → Fraction
-average_value t = unit_fraction (suc (arity t.below) * arities t.below)
+abbrev pub over_arities : Tree → Fraction
+over_arities t = unit_fraction (suc (arity t.below) * arities t.below)
 
 module _ (A : Arithmetic) where
+  -- ---- the average vector field method
+  abbrev pub average_values : Forest → List A.Number
+  average_values none = []
+  average_values (grow c kids rest) = A.quotient (product_all A (average_values kids)) (A.of (whole (suc (arity kids)))) ∷ average_values rest
+
+  abbrev pub average_value : Tree → A.Number
+  average_value t = A.quotient (product_all A (average_values t.below)) (A.of (whole (suc (arity t.below))))
+
   -- ---- sums over splittings
   -- at what is kept; nothing kept has the empty value
   abbrev pub at_kept : A.Number → (Tree → A.Number) → Option Tree → A.Number
@@ -116,7 +130,7 @@ module _ (A : Arithmetic) where
 abbrev pub valued : (A : Arithmetic) → (ℕ → Tree → A.Number) → Series → Tree → A.Number
 valued A weight (exact k) t = A.of (exact_value t)
 valued A weight (identity k) t = A.of (whole 0)
-valued A weight (average k) t = A.of (average_value t)
+valued A weight (average k) t = average_value A t
 valued A weight (method n k) t = weight n t
 valued A weight (compose a b) t = composed A (valued A weight a) (A.of (empty_value b)) (valued A weight b) t
 valued A weight (inverse a) t = inverse_of A (valued A weight a) t

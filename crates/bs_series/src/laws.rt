@@ -1,6 +1,6 @@
 //! Laws of series: each function does nothing, and its contract is the law.
 
-ghost use Rattle.bs_series.specs.Laws.{WrittenIsValue, InverseLaw, ModifiedLaw, ModifyingLaw, DivisorLaw, AdjointLaw, PlannedLaw, PlannedAtLaw, BelowLaw, ColoursLaw};
+ghost use Rattle.bs_series.specs.Laws.{WrittenIsValue, InverseLaw, ModifiedLaw, ModifyingLaw, ValuesAgreeOnIsomorphic, SumsAgreeOnIsomorphic, InverseEverywhere, ModifiedEverywhere, ModifyingEverywhere, DivisorLaw, AdjointLaw, AverageLaw, PlannedLaw, PlannedAtLaw, BelowLaw, ColoursLaw};
 ghost use Rattle.bs_series.specs.PlanItems.{ItemsLaw, NeededLaw};
 ghost use Rattle.bs_series.specs.Keys.{KeysDecide};
 
@@ -26,9 +26,32 @@ pub fn modifying_solves_its_equation()
     ensures divisor { DivisorLaw }
 {}
 
+/// The value of a series does not change where a tree is replaced by an isomorphic one.
+pub fn values_agree_on_isomorphic_trees()
+    ensures { ValuesAgreeOnIsomorphic }
+{}
+
+/// A composition and a substitution do not change where a tree is replaced by an isomorphic one.
+pub fn sums_agree_on_isomorphic_trees()
+    ensures { SumsAgreeOnIsomorphic }
+{}
+
+/// The three equations at every tree, canonical or not, and the solutions alone among the maps that agree on isomorphic trees.
+pub fn equations_hold_at_every_tree()
+    ensures inverse { InverseEverywhere }
+    ensures modified { ModifiedEverywhere }
+    ensures modifying { ModifyingEverywhere }
+{}
+
 /// The adjoint is the inverse, with the sign of the order.
 pub fn adjoint_is_the_signed_inverse()
     ensures { AdjointLaw }
+{}
+
+/// The average vector field method has 1 over the product of one more than the number of children of each node, and is
+/// never written as an Overflow.
+pub fn average_is_one_over_the_arities()
+    ensures { AverageLaw }
 {}
 
 /// A value is its plan carried out over values.

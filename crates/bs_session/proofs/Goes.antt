@@ -1,5 +1,5 @@
 -- A turn as a whole: what is said, what is done for it, that the state stays sound, and that less is left.
-use Rattle.std.proofs.Common.{◌≡◌, ℕ, suc, ◌+◌, ◌-◌, ◌*◌, ◌<◌, ◌≤◌, List, [], ◌∷◌, ◌++◌, length, drop, Option, Some, None, is_some, not, Bool, true, false, MatchOption, Result, Ok, Err, IfOk, refl, sym, ◌∙◌, ap, subst, arith}
+use Rattle.std.proofs.Common.{◌≡◌, ℕ, ◌+◌, ◌-◌, ◌*◌, ◌<◌, ◌≤◌, List, [], ◌∷◌, ◌++◌, length, drop, Option, Some, None, is_some, not, Bool, true, false, MatchOption, Ok, refl, sym, ◌∙◌, ap, subst, arith, zero-add}
 use Rattle.bs_eval.specs.Values.{IsMemory}
 use Rattle.bs_eval.proofs.Memories.{memory_extends}
 use Rattle.bs_eval.specs.declared.memory.Memory.{Memory}
@@ -15,7 +15,7 @@ use Rattle.bs_session.specs.Toil.{toil_of}
 use Rattle.bs_session.specs.Works.{IsWork, IsHeldWork, StepsOn, whole_reply, work_left}
 use Rattle.bs_session.specs.Changes.{IsBookOf, Begins}
 use Rattle.bs_session.specs.WorkNeeded.{AreNeeded, NeededOn}
-use Rattle.bs_session.specs.Machine.{need_here, need_whole, State, commands_of, tables_of, plain_of, line_at, outcome_at, said, IsSound, IsAsked, Evaluates, Takes, IsDone, toil_behind, toil_from, left, idle}
+use Rattle.bs_session.specs.Machine.{need_here, need_whole, lines_here, lines_left, State, commands_of, plain_of, line_at, outcome_at, said, IsSound, IsAsked, Evaluates, Takes, IsDone, toil_behind, toil_from, left, idle}
 use Rattle.bs_session.specs.Turns.{IsQuiet, GoesOn, accepted}
 use Rattle.bs_session.specs.declared.asked.Asked.{Asked}
 use Rattle.bs_session.specs.declared.asked.Asked.TheVariants as asked
@@ -26,7 +26,7 @@ use Rattle.bs_session.specs.declared.step.Step.TheVariants.{Intern, Release, Sam
 use Rattle.bs_session.specs.declared.work.Work.{Work}
 use Rattle.bs_session.proofs.Needed.{needed-whole}
 use Rattle.bs_session.proofs.Turns.{toil-here}
-use Rattle.bs_session.proofs.Settled.{Goes, goes-settled, left_here, asking, unasked, sound-asking, asked-as, takes-after, settles-nothing}
+use Rattle.bs_session.proofs.Settled.{Goes, goes-settled, left_here, unasked, asked-as, takes-after, settles-nothing}
 
 pub Extends-refl : (es : List Series) → Extends es es
 Extends-refl es = record { grows = omega arith; stays = λ i below. refl }
@@ -40,13 +40,15 @@ Extends-then a b c f g = record {
   stays = λ i below. g.stays i (omega (arith, below, f.grows)) ∙ f.stays i below;
 }
 
-pub record GoesFrom (script : ScriptLines) (old new : State) (step : Option Step) : Type 0 where
+-- where the command at the place lists so many lines
+pub record GoesFrom (script : ScriptLines) (old new : State) (lines : ℕ) (step : Option Step) : Type 0 where
   pub said : said script new ≡ said script old
   pub takes : MatchOption step (IsQuiet old new) (λ s. Takes script old new s × (¬ IsDone s))
   pub sound : IsSound script new
   pub number : new.number ≡ old.number
   pub ids_stay : Extends old.space.book new.space.book
   pub nearer : left script new < left script old
+  pub listed : lines_left script old ≡ lines + lines_left script new
 
 -- ---- before the command at the place
 here-by : (script : ScriptLines) (s : State) (question : Asked) → s.place < length (commands_of script s) → toil_behind script s ≤ toil_from script s question
@@ -57,7 +59,7 @@ here-by script s asked.Value more = omega arith
 pub left-here : (script : ScriptLines) (s : State) → s.place < length (commands_of script s) → left_here script s ≤ left script s
 left-here script s more = let e = here-by script s s.asked more in omega (arith, e)
 
-pub goes-from : (script : ScriptLines) (old new : State) (step : Option Step) → old.place < length (commands_of script old) → Goes script old new step → GoesFrom script old new step
+pub goes-from : (script : ScriptLines) (old new : State) (step : Option Step) → old.place < length (commands_of script old) → Goes script old new step → GoesFrom script old new (lines_here script old) step
 goes-from script old new step more g =
     let here = left-here script old more in
     record {
@@ -67,6 +69,7 @@ goes-from script old new step more g =
       number = g.number;
       ids_stay = Extends-same old.space.book new.space.book g.book;
       nearer = omega (arith, g.nearer, here);
+      listed = g.listed;
     }
 
 -- ---- a state that says the same
@@ -77,19 +80,21 @@ pub record Alike (script : ScriptLines) (old mid : State) : Type 0 where
   pub interned : mid.interned ≡ old.interned
   pub ids_stay : Extends old.space.book mid.space.book
   pub nearer : left script mid ≤ left script old
+  pub listed : lines_left script mid ≡ lines_left script old
 
 pub takes-alike : (script : ScriptLines) (old mid new : State) (step : Option Step) → Alike script old mid → MatchOption step (IsQuiet mid new) (λ s. Takes script mid new s × (¬ IsDone s)) → MatchOption step (IsQuiet old new) (λ s. Takes script old new s × (¬ IsDone s))
 takes-alike script old mid new None a q = record { live = q.live ∙ a.live; interned = q.interned ∙ a.interned; asked = q.asked }
 takes-alike script old mid new (Some step) a t = (takes-after script old mid new step a.number a.live a.interned t.0, t.1)
 
-pub goes-alike : (script : ScriptLines) (old mid new : State) (step : Option Step) → Alike script old mid → GoesFrom script mid new step → GoesFrom script old new step
-goes-alike script old mid new step a g = record {
+pub goes-alike : (script : ScriptLines) (old mid new : State) (lines : ℕ) (step : Option Step) → Alike script old mid → GoesFrom script mid new lines step → GoesFrom script old new lines step
+goes-alike script old mid new lines step a g = record {
   said = g.said ∙ a.said;
   takes = takes-alike script old mid new step a g.takes;
   sound = g.sound;
   number = g.number ∙ a.number;
   ids_stay = Extends-then old.space.book mid.space.book new.space.book a.ids_stay g.ids_stay;
   nearer = omega (arith, g.nearer, a.nearer);
+  listed = sym a.listed ∙ g.listed;
 }
 
 -- ---- the state with a book that has grown
@@ -124,6 +129,7 @@ alike-grown script old space work idle book =
       interned = refl;
       ids_stay = book.ids_stay;
       nearer = omega (arith, e);
+      listed = rw (book.live, book.series) refl;
     }
 
 -- ---- the state with work that is begun
@@ -131,8 +137,8 @@ abbrev pub begun : State → Space → Work → State
 begun s space work = record s { space = space; work = work; asked = asked.Value }
 
 pub sound-begun : (script : ScriptLines) (old : State) (space : Space) (work : Work) (most : ℕ) → IsSound script old → old.place < length (commands_of script old) → IsBookOf (plain_of script old) old.space space
-    → Begins (plain_of script old) space (outcome_at script old) most (need_here script old) work → IsSound script (begun old space work)
-sound-begun script old space work most sound more book b = record {
+    → Begins (plain_of script old) space (outcome_at script old) most (need_here script old) work → lines_here script old ≡ 0 → IsSound script (begun old space work)
+sound-begun script old space work most sound more book b none = record {
   here = sound.here;
   few = sound.few;
   place = sound.place;
@@ -148,6 +154,7 @@ sound-begun script old space work most sound more book b = record {
     held = b.held old.memory;
     reply = rw (book.live, book.series) (rw (book.live, book.series) at b.is);
     needs = rw (book.live, book.series) b.needs;
+    unlisted = rw (book.live, book.series) none;
   };
   run = rw (book.live, book.series) sound.run;
 }
@@ -165,6 +172,7 @@ alike-begun script old space work idle more book few =
       interned = refl;
       ids_stay = book.ids_stay;
       nearer = omega (arith, now, before, toil, few);
+      listed = rw (book.live, book.series) refl;
     }
 
 -- ---- work that goes on
@@ -190,6 +198,7 @@ sound_working script old work memory sound value needs is held right same =
       held = held;
       reply = e.reply ∙ ap (λ (r : List ℕ). let o : Outcome = Ok (known_of old.space, r) in o) (sym same);
       needs = needs;
+      unlisted = e.unlisted;
     } in
     record {
       here = sound.here;
@@ -206,7 +215,7 @@ sound_working script old work memory sound value needs is held right same =
     }
 
 pub goes-working : (script : ScriptLines) (old : State) (work : Work) (memory : Memory) (step : Step) → IsSound script old → old.asked ≡ asked.Value
-    → GoesOn (plain_of script old) old.space.book old.work (Some step) work memory → GoesFrom script old (working old work memory) (Some step)
+    → GoesOn (plain_of script old) old.space.book old.work (Some step) work memory → GoesFrom script old (working old work memory) 0 (Some step)
 goes-working script old work memory step sound value g =
     let now : left script (working old work memory) ≡ 3 * (length (commands_of script old) - old.place) + length old.space.live + 0 + (work_left old.space.book work + toil_behind script old) = rw value refl in
     let before : left script old ≡ 3 * (length (commands_of script old) - old.place) + length old.space.live + 0 + (work_left old.space.book old.work + toil_behind script old) = rw value refl in
@@ -219,11 +228,12 @@ goes-working script old work memory step sound value g =
       number = refl;
       ids_stay = Extends-refl old.space.book;
       nearer = omega (arith, now, before, g.nearer);
+      listed = sym (zero-add (lines_left script old));
     }
 
 -- ---- work that is at its end
 pub goes-worked : (script : ScriptLines) (old new : State) (work : Work) (memory : Memory) → IsSound script old → old.asked ≡ asked.Value → GoesOn (plain_of script old) old.space.book old.work None work memory
-    → new ≡ accepted (length old.out) (record old { work = work; memory = memory; out = old.out ++ work.draft.items; asked = asked.Nothing }) → GoesFrom script old new None
+    → new ≡ accepted (length old.out) (record old { work = work; memory = memory; out = old.out ++ work.draft.items; asked = asked.Nothing }) → GoesFrom script old new 0 None
 goes-worked script old new work memory sound value g0 e =
     let whole = g0.0 in
     let is = asked-as script old asked.Value value sound in
@@ -253,11 +263,12 @@ goes-worked script old new work memory sound value g0 e =
       number = g.number;
       ids_stay = Extends-same old.space.book new.space.book g.book;
       nearer = omega (arith, g.nearer, here);
+      listed = g.listed ∙ ap (λ (n : ℕ). n + lines_left script new) is.unlisted;
     }
 
 -- ---- an answer to a comparison
-pub goes-answered : (script : ScriptLines) (old new : State) → old.place < length (commands_of script old) → Goes script (unasked old) new None → GoesFrom script old new None
-goes-answered script old new more g =
+pub goes-answered : (script : ScriptLines) (old new : State) → old.place < length (commands_of script old) → Goes script (unasked old) new None → lines_here script old ≡ 0 → GoesFrom script old new 0 None
+goes-answered script old new more g none =
     let here = left-here script old more in
     record {
       said = g.said;
@@ -266,6 +277,7 @@ goes-answered script old new more g =
       number = g.number;
       ids_stay = Extends-same old.space.book new.space.book g.book;
       nearer = omega (arith, g.nearer, here);
+      listed = g.listed ∙ ap (λ (n : ℕ). n + lines_left script new) none;
     }
 
 -- ---- a tree that is given back at the end
@@ -281,12 +293,12 @@ left-released script old live idle last less =
 
 -- ---- what the work comes to, by whether there is a step
 pub goes-ended : (script : ScriptLines) (old new : State) (work : Work) (memory : Memory) (step : Option Step) (none : Bool) → IsSound script old → old.asked ≡ asked.Value → GoesOn (plain_of script old) old.space.book old.work step work memory
-    → is_some step ≡ not none → none ≡ true → new ≡ accepted (length old.out) (record old { work = work; memory = memory; out = old.out ++ work.draft.items; asked = asked.Nothing }) → GoesFrom script old new step
+    → is_some step ≡ not none → none ≡ true → new ≡ accepted (length old.out) (record old { work = work; memory = memory; out = old.out ++ work.draft.items; asked = asked.Nothing }) → GoesFrom script old new 0 step
 goes-ended script old new work memory None none sound value g is h e = goes-worked script old new work memory sound value g e
 goes-ended script old new work memory (Some step) none sound value g is h e = absurd (let f : true ≡ false = is ∙ ap not h in cc)
 
 pub goes-asked : (script : ScriptLines) (old new : State) (work : Work) (memory : Memory) (step : Option Step) (none : Bool) → IsSound script old → old.asked ≡ asked.Value → GoesOn (plain_of script old) old.space.book old.work step work memory
-    → is_some step ≡ not none → none ≡ false → new ≡ working old work memory → GoesFrom script old new step
+    → is_some step ≡ not none → none ≡ false → new ≡ working old work memory → GoesFrom script old new 0 step
 goes-asked script old new work memory None none sound value g is h e = absurd (let f : false ≡ true = is ∙ ap not h in cc)
 goes-asked script old new work memory (Some step) none sound value g is h e = rw e (goes-working script old work memory step sound value g)
 

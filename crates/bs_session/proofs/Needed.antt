@@ -1,5 +1,5 @@
 -- What a session needs: that its commands' parts are parts of the whole, and the trees of a command those that its work wants.
-use Rattle.std.proofs.Common.{◌≡◌, ℕ, suc, ◌+◌, ◌<◌, sum_by, arith, List, [], ◌∷◌, ◌++◌, length, drop, flat_map, Option, Some, None, Result, Ok, Err, refl, sym, ◌∙◌, ap, subst, inl, inr, add-one, zero-add, append-nil}
+use Rattle.std.proofs.Common.{◌≡◌, ℕ, suc, ◌+◌, ◌<◌, sum_by, arith, List, [], ◌∷◌, ◌++◌, length, drop, flat_map, Option, Some, Ok, refl, sym, ◌∙◌, ap, subst, add-one, zero-add, append-nil}
 use Rattle.std.proofs.Math.Seq.{drop-cons}
 use Rattle.std.proofs.lemmas.List.{append_assoc}
 use Rattle.std.proofs.lemmas.List.Sums.{sum_by-append}
@@ -7,19 +7,19 @@ use Rattle.std.specs.List.{AllByRecursion}
 use Rattle.bs_tree.specs.Tree.{Tree}
 use Rattle.bs_tree.specs.Code.{tree_of}
 use Rattle.bs_tree.specs.ListLaws.{all_implied}
-use Rattle.bs_tableau.specs.Words.{words}
 use Rattle.bs_script.specs.Blocks.{ScriptLines}
 use Rattle.bs_series.specs.Series.{Series}
 use Rattle.bs_series.specs.SeriesCode.{Code}
-use Rattle.bs_series.specs.Needed.{need, Among}
+use Rattle.bs_series.specs.Needed.{Among}
 use Rattle.bs_series.specs.Expressions.{series_at}
 use Rattle.bs_session.specs.Known.{Known}
 use Rattle.bs_session.specs.Commands.{Outcome}
-use Rattle.bs_session.specs.Replies.{Turn, settled, turn}
+use Rattle.bs_session.specs.Replies.{settled}
 use Rattle.bs_session.specs.Space.{known_of}
-use Rattle.bs_session.specs.Needed.{need_at, need_both, need_of, Ran, ran, run, session_run, need_answered, ran_need, trees_named, session_trees, IsBehind}
+use Rattle.bs_session.specs.Needed.{need_at, need_both, Ran, ran, run, session_run, need_answered, ran_need, trees_named, session_trees, IsBehind}
+use Rattle.bs_session.specs.Listing.{lines_listed}
 use Rattle.bs_session.specs.WorkNeeded.{IsWanted, AreBothWanted, NeedsTask, NeedsJob, NeededOn, NeedsNoMore, KeepsNeed}
-use Rattle.bs_session.specs.Machine.{State, session_at, commands_of, tables_of, line_at, outcome_at, whole_run, run_left, need_here, need_whole}
+use Rattle.bs_session.specs.Machine.{lines_here, lines_left, State, session_at, commands_of, tables_of, line_at, outcome_at, whole_run, run_left, need_here, need_whole}
 use Rattle.bs_session.proofs.Turns.{Turned}
 use Rattle.bs_session.specs.declared.step.Step.{Step}
 use Rattle.bs_session.specs.declared.step.Step.TheVariants.{Intern, Release, Same, Look, Keep, Done}
@@ -131,16 +131,30 @@ behind-next script old new more t named b =
     subst (λ (n : ℕ). IsBehind (session_run script (session_at script n)) (run_left script new) new.interned) (sym t.number)
     (behind-turned (whole_run script old) r (run_left script old) (run_left script new) old.interned new.interned b here named)
 
+-- the lines of the command at the place, and of those behind it
+pub lines-turned : (script : ScriptLines) (old new : State) → old.place < length (commands_of script old) → Turned (outcome_at script old) old new → lines_left script old ≡ lines_here script old + lines_left script new
+lines-turned script old new more t =
+    let r : Ran = ran (tables_of script old) (known_of old.space) old.used (line_at script old) in
+    let after = run_left script new in
+    let one : sum_by lines_listed (r ∷ []) ≡ lines_listed r = zero-add (lines_listed r) in
+    ap (λ (rs : List Ran). sum_by lines_listed rs) (run-here script old more ∙ ap (λ (rs : List Ran). r ∷ rs) (sym (run-turned script old new t)))
+    ∙ sum_by-append lines_listed (r ∷ []) after
+    ∙ ap (λ (n : ℕ). n + sum_by lines_listed after) one
+
 drop_all : {X : Type 0} (xs : List X) → drop (length xs) xs ≡ []
 drop_all [] = refl
 drop_all (x ∷ xs) = drop_all xs
 
 -- behind the last command none is left, whatever is known
-none_left : (script : ScriptLines) (s : State) → s.place ≡ length (commands_of script s) → run_left script s ≡ []
+pub none_left : (script : ScriptLines) (s : State) → s.place ≡ length (commands_of script s) → run_left script s ≡ []
 none_left script s last = let none : drop s.place (commands_of script s) ≡ [] = rw last (drop_all (commands_of script s)) in rw none refl
 
 sum_none : (front rest : List Ran) → rest ≡ [] → sum_by trees_named (front ++ rest) ≡ sum_by trees_named front
 sum_none front rest e = ap (λ (rs : List Ran). sum_by trees_named (front ++ rs)) e ∙ ap (λ (rs : List Ran). sum_by trees_named rs) (append-nil front)
+
+-- so that all lines are listed
+pub all-listed : (script : ScriptLines) (s : State) → s.place ≡ length (commands_of script s) → lines_left script s ≡ 0
+all-listed script s last = ap (λ (rs : List Ran). sum_by lines_listed rs) (none_left script s last)
 
 -- so that all trees are named
 pub all-named : (script : ScriptLines) (s : State) → s.place ≡ length (commands_of script s) → IsBehind (whole_run script s) (run_left script s) s.interned → s.interned ≡ session_trees script (session_at script s.number)

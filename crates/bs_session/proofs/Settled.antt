@@ -1,5 +1,5 @@
 -- A turn that settles: what is left to say, what is done for it, and that the state stays sound.
-use Rattle.std.proofs.Common.{◌≡◌, ◌≢◌, ℕ, suc, ◌+◌, ◌-◌, ◌*◌, ◌<◌, ◌≤◌, Bool, true, false, List, [], ◌∷◌, ◌++◌, length, Option, Some, None, IsSomeAnd, MatchOption, Result, Ok, Err, IfOk, nat_le, slice_get, slice_index_or, All, OnOk, is_some, not, refl, sym, ◌∙◌, ap, subst, arith, add-one}
+use Rattle.std.proofs.Common.{◌≡◌, ℕ, ◌+◌, ◌-◌, ◌*◌, ◌<◌, ◌≤◌, Bool, true, false, List, [], ◌++◌, length, Option, Some, None, IsSomeAnd, MatchOption, Result, Ok, Err, IfOk, slice_get, slice_index_or, All, OnOk, refl, sym, ◌∙◌, ap, subst, arith}
 use Rattle.std.proofs.lemmas.Bool.Decides.{nat_tests}
 use Rattle.bs_tableau.specs.Words.{words}
 use Rattle.bs_script.specs.Blocks.{ScriptLines, SessionLines}
@@ -16,12 +16,12 @@ use Rattle.bs_session.specs.Replies.{tables_seen, session_replies}
 use Rattle.bs_tableau.specs.Table.{Table}
 use Rattle.bs_series.specs.Series.{Series}
 use Rattle.bs_series.specs.Accepted.{Suits}
-use Rattle.bs_session.specs.Known.{plain}
 use Rattle.bs_session.specs.Space.{Space, known_of}
-use Rattle.bs_session.specs.Changes.{known_after, IsApt, Says, Asks}
+use Rattle.bs_session.specs.Changes.{known_after, IsApt, Says}
 use Rattle.bs_eval.specs.Values.{IsMemory}
 use Rattle.bs_session.specs.Needed.{IsBehind}
-use Rattle.bs_session.specs.Machine.{whole_run, run_left, State, no_session, session_at, commands_of, tables_of, line_at, outcome_at, said, IsSound, IsAsked, AreNumbered, AreApart, Interns, Releases, Compares, IsTrueOf, is_yes, Takes, IsDone, plain_of, toil_behind, toil_from, left}
+use Rattle.bs_session.specs.Listing.{session_listed}
+use Rattle.bs_session.specs.Machine.{whole_run, run_left, lines_here, lines_left, State, no_session, session_at, commands_of, line_at, outcome_at, said, IsSound, IsAsked, AreNumbered, AreApart, IsTrueOf, is_yes, Takes, IsDone, plain_of, toil_behind, left}
 use Rattle.bs_session.specs.Turns.{Applies, SettlesBy, Settles, IsQuiet, fits, accepted}
 use Rattle.bs_session.specs.declared.TheConstants.{MAX_REPLIES}
 use Rattle.bs_session.specs.declared.error.Error.{Error}
@@ -35,9 +35,9 @@ use Rattle.bs_session.specs.declared.step.Step.TheVariants.{Intern, Release, Sam
 use Rattle.bs_session.specs.declared.asked.Asked.{Asked}
 use Rattle.bs_session.specs.declared.asked.Asked.TheVariants as asked
 use Rattle.bs_session.proofs.Sound.{numbered-named, apart-named, numbered-dropped, apart-dropped}
-use Rattle.bs_session.proofs.Needed.{behind-next, behind-last}
+use Rattle.bs_session.proofs.Needed.{behind-next, behind-last, lines-turned}
 use Rattle.bs_session.proofs.Interned.{interned-settled, interned-refused}
-use Rattle.bs_session.proofs.Turns.{Turned, said-turned, toil-here, toil-turned, turned-settled, turned-refused, with_live, with_named, with_reply, is_short, taken_by, settles-taken, SameRest, rest-applied, known-applied}
+use Rattle.bs_session.proofs.Turns.{Turned, said-turned, toil-turned, turned-settled, turned-refused, with_live, with_reply, is_short, taken_by, settles-taken, rest-applied, known-applied}
 
 -- ---- the names
 pub record GoodNames (live : List (List ℕ × LiveTree)) (interned most : ℕ) : Type 0 where
@@ -298,6 +298,7 @@ pub record Goes (script : ScriptLines) (old new : State) (step : Option Step) : 
   pub number : new.number ≡ old.number
   pub book : new.space.book ≡ old.space.book
   pub nearer : left script new < left_here script old
+  pub listed : lines_left script old ≡ lines_here script old + lines_left script new
 
 near_turned : (script : ScriptLines) (old new : State) → old.place < length (commands_of script old) → Turned (outcome_at script old) old new → length new.space.live ≤ length old.space.live + 1 → new.asked ≡ asked.Nothing → left script new < left_here script old
 near_turned script old new more turned live idle =
@@ -329,6 +330,7 @@ goes-settled script old new (Ok answer) out change step sound idle more outcome 
       number = turned.number;
       book = book;
       nearer = near_turned script old new more turned (more-settled (is_short old answer.1) old answer.1 change new step by) asked;
+      listed = lines-turned script old new more turned;
     }
 
 pub goes-refused : (script : ScriptLines) (old new : State) (error : Error) → IsSound script old → old.asked ≡ asked.Nothing → old.place < length (commands_of script old) → outcome_at script old ≡ Err error
@@ -348,6 +350,7 @@ goes-refused script old new error sound idle more outcome e =
       number = turned.number;
       book = book;
       nearer = near_turned script old new more turned (omega (arith, few)) asked;
+      listed = lines-turned script old new more turned;
     }
 
 -- ---- the command at the place, as the code finds it
@@ -499,13 +502,13 @@ takes-after script old mid new (Keep id code v) number live interned t = record 
   live = t.live ∙ live;
   counted = t.counted ∙ interned;
 }
-takes-after script old mid new (Done reply) number live interned t = (sym live ∙ t.0, t.1, t.2 ∙ interned, t.3, t.4)
+takes-after script old mid new (Done reply) number live interned t = (sym live ∙ t.0, t.1, t.2 ∙ interned, t.3, t.4, t.5)
 
 -- ---- a state that only says more of memory
 pub asked-failed : (script : ScriptLines) (s : State) (failed : Bool) (question : Asked) → IsAsked script s question → IsAsked script (record s { failed = failed }) question
 asked-failed script s failed asked.Nothing is = tt
 asked-failed script s failed (asked.Same l r) is = is
-asked-failed script s failed asked.Value is = record { here = is.here; work = is.work; held = is.held; reply = is.reply; needs = is.needs }
+asked-failed script s failed asked.Value is = record { here = is.here; work = is.work; held = is.held; reply = is.reply; needs = is.needs; unlisted = is.unlisted }
 
 pub sound-failed : (script : ScriptLines) (s : State) (failed : Bool) → IsSound script s → IsSound script (record s { failed = failed })
 sound-failed script s failed sound = record {
@@ -543,3 +546,6 @@ sound-start script s few here place interned used live series book memory idle =
 
 pub said-start : (script : ScriptLines) (s : State) → s.place ≡ 0 → s.used ≡ 0 → s.out ≡ [] → s.space.live ≡ [] → s.space.series ≡ [] → said script s ≡ session_replies script (session_at script s.number)
 said-start script s place used out live series = rw (place, used, out, live, series) refl
+
+pub lines-start : (script : ScriptLines) (s : State) → s.place ≡ 0 → s.used ≡ 0 → s.space.live ≡ [] → s.space.series ≡ [] → lines_left script s ≡ session_listed script (session_at script s.number)
+lines-start script s place used live series = rw (place, used, live, series) refl

@@ -8,10 +8,12 @@
 --   Begins ts space o p ns w == it is told by the work w, which is sound, takes at most p turns and needs the pairs ns at most
 --   Carries ts space o p ns old new w c == the outcome o is what has been carried out
 --   Refuses f o          == the fault is the error that the outcome is; want of memory is free
+--   Lists n m m' c       == where n lines are listed the counter has risen by them, from m to m'; a question lists none, nor does work that is begun
+--   ListsNone n m m' f   == a refused command lists none, and the counter stands; want of memory is free
 --   IsBookOf ts old new  == nothing but the book may have changed: it suits the tableaux as before, and no id has changed
 --
 -- Source: this project.
-use Rattle.std.specs.Prelude.{◌≡◌, ℕ, ◌<◌, ◌≤◌, List, ◌++◌, length, Some, None, IsSome, Result, Ok, Err}
+use Rattle.std.specs.Prelude.{◌≡◌, ℕ, ◌+◌, ◌<◌, ◌≤◌, List, ◌++◌, length, Some, None, IsSome, Ok, Err}
 use Rattle.bs_tree.specs.Tree.{Tree}
 use Rattle.bs_tableau.specs.Table.{Table}
 use Rattle.bs_series.specs.Series.{Series}
@@ -70,6 +72,15 @@ abbrev pub Carries : List Table → Space → Outcome → ℕ → List (Series �
 Carries tables space outcome most ns old new w (Replied change) = Says space outcome old new change
 Carries tables space outcome most ns old new w (Asked left right) = Asks space outcome left right × (new ≡ old)
 Carries tables space outcome most ns old new w Begun = Begins tables space outcome most ns w × (new ≡ old)
+
+abbrev pub Lists : ℕ → ℕ → ℕ → Carried → Type 0
+Lists lines before after (Replied change) = after ≡ before + lines
+Lists lines before after (Asked left right) = (lines ≡ 0) × (after ≡ before)
+Lists lines before after Begun = (lines ≡ 0) × (after ≡ before)
+
+abbrev pub ListsNone : ℕ → ℕ → ℕ → Fault → Type 0
+ListsNone lines before after (Refused error) = (lines ≡ 0) × (after ≡ before)
+ListsNone lines before after (Memory cause) = Unit {0}
 
 abbrev pub Refuses : Fault → Outcome → Type 0
 Refuses (Refused error) outcome = outcome ≡ Err error

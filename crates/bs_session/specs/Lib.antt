@@ -15,6 +15,7 @@ pub mod Works
 pub mod WorkNeeded
 pub mod Toil
 pub mod Needed
+pub mod Listing
 pub mod Space
 pub mod Kinds
 pub mod Changes
@@ -22,3 +23,4 @@ pub mod Machine
 pub mod Turns
 pub mod WorkCounted
 pub mod Counted
+pub mod Examples

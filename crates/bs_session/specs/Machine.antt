@@ -15,12 +15,13 @@
 --   whole_run, run_left script s == the commands of the session, and those that are left, from the place on
 --   need_here script s       == what the command at the place needs
 --   need_whole script s      == what the session needs
+--   lines_here, lines_left script s == how many lines the command at the place lists, and how many those do that are left
 --   IsSound script s         == what holds between two steps
 --   Takes script old new step == the trees that are live before and after a step, and what the step says of them
 --   left script s            == a number that falls at each step but the last
 --
 -- Source: this project.
-use Rattle.std.specs.Prelude.{◌≡◌, ◌≢◌, ℕ, ◌+◌, ◌-◌, ◌*◌, ◌<◌, ◌≤◌, Bool, true, false, List, [], ◌∷◌, ◌++◌, length, drop, Option, Some, None, Result, Ok, slice_index_or, slice_get, suc}
+use Rattle.std.specs.Prelude.{◌≡◌, ℕ, ◌+◌, ◌-◌, ◌*◌, ◌<◌, ◌≤◌, Bool, true, false, List, [], ◌++◌, length, drop, sum_by, Option, Some, None, Ok, slice_index_or, slice_get, suc}
 use Rattle.bs_tree.specs.Isomorphic.{isomorphic}
 use Rattle.bs_tree.specs.Tree.{Tree}
 use Rattle.bs_tree.specs.Code.{tree_of}
@@ -34,14 +35,15 @@ use Rattle.bs_series.specs.Accepted.{Suits}
 use Rattle.bs_tableau.specs.Table.{Table}
 use Rattle.bs_eval.specs.Values.{IsMemory}
 use Rattle.bs_eval.specs.declared.memory.Memory.{Memory}
-use Rattle.bs_session.specs.Known.{Known, Tables, plain}
+use Rattle.bs_session.specs.Known.{Tables, plain}
 use Rattle.bs_session.specs.Commands.{Outcome, command}
-use Rattle.bs_session.specs.Replies.{Turn, settled, replies, tables_seen}
+use Rattle.bs_session.specs.Replies.{settled, replies, tables_seen}
 use Rattle.bs_session.specs.Space.{Space, known_of}
 use Rattle.bs_session.specs.Works.{IsWork, IsHeldWork, IsHanded, StepsOn, whole_reply, work_left}
 use Rattle.bs_session.specs.WorkNeeded.{AreNeeded, NeededOn}
 use Rattle.bs_session.specs.Toil.{toil}
 use Rattle.bs_session.specs.Needed.{Ran, run, session_run, session_need, session_trees, need_of, IsBehind}
+use Rattle.bs_session.specs.Listing.{lines_of, lines_listed}
 use Rattle.bs_session.specs.Changes.{IsLive, Asks}
 use Rattle.bs_session.specs.declared.TheConstants.{MAX_REPLIES}
 use Rattle.bs_session.specs.declared.live.LiveTree.{LiveTree}
@@ -101,6 +103,12 @@ need_here script s = need_of (known_of s.space) (words (line_at script s))
 abbrev pub need_whole : ScriptLines → State → List (Series × Tree)
 need_whole script s = session_need script (session_at script s.number)
 
+abbrev pub lines_here : ScriptLines → State → ℕ
+lines_here script s = lines_of (known_of s.space) (words (line_at script s))
+
+abbrev pub lines_left : ScriptLines → State → ℕ
+lines_left script s = sum_by lines_listed (run_left script s)
+
 -- whether two trees are isomorphic
 abbrev pub IsTrueOf : LiveTree → LiveTree → Answer → Type 0
 IsTrueOf left right Go = ⊥
@@ -138,11 +146,13 @@ pub record Evaluates (script : ScriptLines) (s : State) : Type 0 where
   pub held : IsHeldWork s.space.book s.memory s.work
   pub reply : outcome_at script s ≡ Ok (known_of s.space, whole_reply (plain_of script s) s.space.book s.work)
   pub needs : AreNeeded s.space.book (need_here script s) s.work
+  pub unlisted : lines_here script s ≡ 0
 
 -- what is asked is the command at the place
 abbrev pub IsAsked : ScriptLines → State → Asked → Type 0
 IsAsked script s asked.Nothing = Unit {0}
-IsAsked script s (asked.Same left right) = (s.place < length (commands_of script s)) × Asks s.space (outcome_at script s) left right
+IsAsked script s (asked.Same left right) =
+    (s.place < length (commands_of script s)) × Asks s.space (outcome_at script s) left right × (lines_here script s ≡ 0)
 IsAsked script s asked.Value = Evaluates script s
 
 -- each live tree has a number below n
@@ -245,7 +255,7 @@ Takes script old new (Look id code) = Works script old new (Look id code)
 Takes script old new (Keep id code v) = Works script old new (Keep id code v)
 Takes script old new (Done reply) =
     (old.space.live ≡ []) × (new.space.live ≡ []) × (new.interned ≡ old.interned) × (new.asked ≡ asked.Nothing)
-    × (new.interned ≡ session_trees script (session_at script new.number))
+    × (new.interned ≡ session_trees script (session_at script new.number)) × (lines_left script new ≡ 0)
 
 -- ---- what is left
 abbrev pub idle : Asked → ℕ

@@ -4,7 +4,7 @@
 //! A new command is a verb, an arm of `command`, a function here, a definition in `specs/Commands.antt` and a reply line. Those about
 //! series have modules of their own.
 
-ghost use Rattle.std.specs.Prelude.{◌≡◌, ◌<◌, All, IsTrue, IfOk, IfErr, OnErr};
+ghost use Rattle.std.specs.Prelude.{◌≡◌, ◌+◌, ◌<◌, All, IsTrue, IfOk, IfErr, OnOk, OnErr};
 ghost use Rattle.bs_levels.specs.Faults.{refusal_of};
 ghost use Rattle.bs_reply.specs.Lines.{line_text};
 ghost use Rattle.bs_tableau.specs.Words.{words};
@@ -15,7 +15,8 @@ ghost use Rattle.bs_session.specs.Known.{plain};
 ghost use Rattle.bs_session.specs.Space.{known_of};
 ghost use Rattle.bs_session.specs.Toil.{toil_of};
 ghost use Rattle.bs_session.specs.Needed.{need_of};
-ghost use Rattle.bs_session.specs.Changes.{Says, Carries, Asks, Refuses, IsBookOf};
+ghost use Rattle.bs_session.specs.Listing.{lines_of, lines_split, lines_parted};
+ghost use Rattle.bs_session.specs.Changes.{Says, Carries, Asks, Refuses, Lists, ListsNone, IsBookOf};
 ghost use Rattle.bs_session.specs.declared.change.Carried.TheVariants.{Replied, Begun};
 ghost use Rattle.bs_session.specs.Errors.{error_of};
 
@@ -37,8 +38,10 @@ use bs_eval::TableWeights;
 use bs_levels::{LevelRefusal, read_code};
 use bs_listing::{write_partitions, write_splits};
 use bs_reply::{Line, write_line};
+use bs_steps::Steps;
 use bs_tableau::Words;
 use bs_tree::Code;
+use std::sync::ledger::Ledger;
 
 /// `tree NAME LEVELS [COLOURS]`
 fn tree<'a>(names: &Namespace, words: Words<'a>, out: &mut Vec<u8>) -> Result<Change<'a>, Fault>
@@ -231,9 +234,16 @@ fn order<'a>(
 }
 
 /// `split T`
-fn split<'a>(names: &Namespace, words: Words<'a>, out: &mut Vec<u8>) -> Result<Change<'a>, Fault>
+fn split<'a, L: Ledger>(
+    names: &Namespace,
+    words: Words<'a>,
+    out: &mut Vec<u8>,
+    steps: &mut Steps<L>,
+) -> Result<Change<'a>, Fault>
     ensures says { IfOk result (λ change. Says names.now (split_command (known_of names.now) words.entry) out.old.items out.new.items change) }
     ensures refused { IfErr result (λ fault. Refuses fault (split_command (known_of names.now) words.entry)) }
+    ensures lists { OnOk result (steps.new ≡ steps.old + lines_split (known_of names.now) words.entry) }
+    ensures unlisted { IfErr result (ListsNone (lines_split (known_of names.now) words.entry) steps.old steps.new) }
     ensures unwritten { OnErr result (out.new.items ≡ out.old.items) }
 {
     let Some(name) = only(words) else {
@@ -242,18 +252,21 @@ fn split<'a>(names: &Namespace, words: Words<'a>, out: &mut Vec<u8>) -> Result<C
     let Some(tree) = names.tree(name) else {
         return Err(Fault::Refused(Error::Name));
     };
-    write_splits(out, tree.code)?;
+    write_splits(out, tree.code, steps)?;
     Ok(Change::Nothing)
 }
 
 /// `partition T`
-fn partition<'a>(
+fn partition<'a, L: Ledger>(
     names: &Namespace,
     words: Words<'a>,
     out: &mut Vec<u8>,
+    steps: &mut Steps<L>,
 ) -> Result<Change<'a>, Fault>
     ensures says { IfOk result (λ change. Says names.now (partition_command (known_of names.now) words.entry) out.old.items out.new.items change) }
     ensures refused { IfErr result (λ fault. Refuses fault (partition_command (known_of names.now) words.entry)) }
+    ensures lists { OnOk result (steps.new ≡ steps.old + lines_parted (known_of names.now) words.entry) }
+    ensures unlisted { IfErr result (ListsNone (lines_parted (known_of names.now) words.entry) steps.old steps.new) }
     ensures unwritten { OnErr result (out.new.items ≡ out.old.items) }
 {
     let Some(name) = only(words) else {
@@ -262,23 +275,26 @@ fn partition<'a>(
     let Some(tree) = names.tree(name) else {
         return Err(Fault::Refused(Error::Name));
     };
-    write_partitions(out, tree.code)?;
+    write_partitions(out, tree.code, steps)?;
     Ok(Change::Nothing)
 }
 
 /// The command of a line. Where it wants coefficients, the work on its reply is begun.
-#[tactic(auto, unfolding(crate::specs::Commands::command, crate::specs::Toil::toil_of, crate::specs::Needed::need_of))]
-pub(crate) fn command<'a>(
+#[tactic(auto, unfolding(crate::specs::Commands::command, crate::specs::Toil::toil_of, crate::specs::Needed::need_of, crate::specs::Listing::lines_of))]
+pub(crate) fn command<'a, L: Ledger>(
     tables: &Seen<'_>,
     weights: &mut TableWeights,
     names: &mut Namespace,
     line: &'a [u8],
     out: &mut Vec<u8>,
     work: &mut Work,
+    steps: &mut Steps<L>,
 ) -> Result<Carried<'a>, Fault>
     requires suits { Suits (plain tables.now) names.old.book }
     ensures carried { IfOk result (λ carried. Carries (plain tables.now) names.new (command tables.now (known_of names.old) (words line.now)) (toil_of (known_of names.old) (words line.now)) (need_of (known_of names.old) (words line.now)) out.old.items out.new.items work.new carried) }
     ensures refused { IfErr result (λ fault. Refuses fault (command tables.now (known_of names.old) (words line.now))) }
+    ensures lists { IfOk result (Lists (lines_of (known_of names.old) (words line.now)) steps.old steps.new) }
+    ensures unlisted { IfErr result (ListsNone (lines_of (known_of names.old) (words line.now)) steps.old steps.new) }
     ensures unwritten { OnErr result (out.new.items ≡ out.old.items) }
     ensures book { IsBookOf (plain tables.now) names.old names.new }
 {
@@ -319,11 +335,11 @@ pub(crate) fn command<'a>(
             Ok(change) => Ok(Carried::Replied { change }),
             Err(fault) => Err(fault),
         },
-        Some(Verb::Split) => match split(names, words, out) {
+        Some(Verb::Split) => match split(names, words, out, steps) {
             Ok(change) => Ok(Carried::Replied { change }),
             Err(fault) => Err(fault),
         },
-        Some(Verb::Partition) => match partition(names, words, out) {
+        Some(Verb::Partition) => match partition(names, words, out, steps) {
             Ok(change) => Ok(Carried::Replied { change }),
             Err(fault) => Err(fault),
         },

@@ -4,16 +4,17 @@ ghost use Rattle.std.specs.Prelude.{true, false, ◌≡◌, ◌≢◌, ◌+◌, 
 ghost use Rattle.bs_reply.specs.Lines.{same_line, error_line};
 ghost use Rattle.bs_script.specs.declared.TheConstants.{MAX_COMMANDS};
 ghost use Rattle.bs_series.specs.Expressions.{Extends};
-ghost use Rattle.bs_session.specs.Changes.{IsApt, Carries, Refuses, IsBookOf};
+ghost use Rattle.bs_session.specs.Changes.{IsApt, Carries, Refuses, Lists, ListsNone, IsBookOf};
 ghost use Rattle.bs_session.specs.Counted.{Counts, IsTame};
 ghost use Rattle.bs_session.specs.WorkCounted.{completed_on, work_begun, work_waiting, work_waited, MovesOn, ApartOn};
 ghost use Rattle.bs_session.specs.Errors.{error_number};
+ghost use Rattle.bs_session.specs.Listing.{session_listed};
 ghost use Rattle.bs_session.specs.Replies.{session_replies};
 ghost use Rattle.bs_session.specs.Space.{known_of};
 ghost use Rattle.bs_session.specs.Toil.{toil_of};
 ghost use Rattle.bs_session.specs.Works.{IsHanded};
 ghost use Rattle.bs_session.specs.Turns.{IsQuiet, GoesOn, Applies, Settles, fits, accepted};
-ghost use Rattle.bs_session.specs.Machine.{State, said, session_at, commands_of, plain_of, outcome_at, line_at, need_here, IsTruthful, is_yes, found_of, IsSound, SaysOn, IsDone, Takes, left};
+ghost use Rattle.bs_session.specs.Machine.{State, said, session_at, commands_of, plain_of, outcome_at, line_at, need_here, lines_here, lines_left, IsTruthful, is_yes, found_of, IsSound, SaysOn, IsDone, Takes, left};
 ghost use Rattle.bs_session.specs.declared.asked.Asked.TheVariants as asked;
 ghost use Rattle.bs_tableau.specs.Words.{words};
 
@@ -100,6 +101,7 @@ impl Session {
         ensures said { IfOk result (λ s. said script.now s ≡ session_replies script.now (session_at script.now number)) }
         ensures sound { IfOk result (λ s. IsSound script.now s) }
         ensures number { IfOk result (λ s. s.number ≡ number) }
+        ensures lines { IfOk result (λ s. lines_left script.now s ≡ session_listed script.now (session_at script.now number)) }
         ensures none { IfOk result (λ s. (s.space.live ≡ []) × (s.space.book ≡ []) × (s.interned ≡ 0) × (s.asked ≡ asked.Nothing)) }
     {
         prove!(number < script.sessions().len());
@@ -139,7 +141,7 @@ impl Session {
         requires truthful { self.old.failed ≡ false → IsTruthful script.now self.old answer }
         ensures said { IfOk result (λ step. SaysOn step (said script.now self.old) (said script.now self.new)) }
         ensures takes { IfOk result (λ step. Takes script.now self.old self.new step) }
-        ensures counts { IfOk result (λ step. Counts self.old self.new (found_of answer) steps.old steps.new (Some step)) }
+        ensures counts { IfOk result (λ step. Counts self.old self.new (found_of answer) (steps.old + lines_left script.now self.old) (steps.new + lines_left script.now self.new) (Some step)) }
         ensures sound { OnOk result (IsSound script.now self.new) }
         ensures number { OnOk result (self.new.number ≡ self.old.number) }
         ensures ids_stay { OnOk result (Extends self.old.space.book self.new.space.book) }
@@ -165,7 +167,7 @@ impl Session {
         requires truthful { IsTruthful script.now self.old answer }
         ensures said { IfOk result (λ step. SaysOn step (said script.now self.old) (said script.now self.new)) }
         ensures takes { IfOk result (λ step. Takes script.now self.old self.new step) }
-        ensures counts { IfOk result (λ step. Counts self.old self.new (found_of answer) steps.old steps.new (Some step)) }
+        ensures counts { IfOk result (λ step. Counts self.old self.new (found_of answer) (steps.old + lines_left script.now self.old) (steps.new + lines_left script.now self.new) (Some step)) }
         ensures sound { OnOk result (IsSound script.now self.new) }
         ensures number { OnOk result (self.new.number ≡ self.old.number) }
         ensures ids_stay { OnOk result (Extends self.old.space.book self.new.space.book) }
@@ -188,7 +190,7 @@ impl Session {
         requires truthful { IsTruthful script.now self.old answer }
         ensures said { OnOk result (said script.now self.new ≡ said script.now self.old) }
         ensures takes { IfOk result (λ step. MatchOption step (IsQuiet self.old self.new) (λ s. Takes script.now self.old self.new s × (¬ IsDone s))) }
-        ensures counts { IfOk result (λ step. Counts self.old self.new (found_of answer) steps.old steps.new step) }
+        ensures counts { IfOk result (λ step. Counts self.old self.new (found_of answer) (steps.old + lines_left script.now self.old) (steps.new + lines_left script.now self.new) step) }
         ensures sound { OnOk result (IsSound script.now self.new) }
         ensures number { OnOk result (self.new.number ≡ self.old.number) }
         ensures ids_stay { OnOk result (Extends self.old.space.book self.new.space.book) }
@@ -214,7 +216,7 @@ impl Session {
         requires idle { self.old.asked ≡ asked.Nothing }
         ensures said { IfOk result (λ step. SaysOn step (said script.now self.old) (said script.now self.new)) }
         ensures takes { IfOk result (λ step. Takes script.now self.old self.new step) }
-        ensures counts { IfOk result (λ step. Counts self.old self.new None steps.old steps.new (Some step)) }
+        ensures counts { IfOk result (λ step. Counts self.old self.new None (steps.old + lines_left script.now self.old) (steps.new + lines_left script.now self.new) (Some step)) }
         ensures sound { OnOk result (IsSound script.now self.new) }
         ensures number { OnOk result (self.new.number ≡ self.old.number) }
         ensures ids_stay { OnOk result (Extends self.old.space.book self.new.space.book) }
@@ -240,14 +242,14 @@ impl Session {
         requires more { self.old.place < length (commands_of script.now self.old) }
         ensures said { OnOk result (said script.now self.new ≡ said script.now self.old) }
         ensures takes { IfOk result (λ step. MatchOption step (IsQuiet self.old self.new) (λ s. Takes script.now self.old self.new s × (¬ IsDone s))) }
-        ensures counts { IfOk result (λ step. Counts self.old self.new None steps.old steps.new step) }
+        ensures counts { IfOk result (λ step. Counts self.old self.new None (steps.old + lines_left script.now self.old) (steps.new + lines_left script.now self.new) step) }
         ensures sound { OnOk result (IsSound script.now self.new) }
         ensures number { OnOk result (self.new.number ≡ self.old.number) }
         ensures ids_stay { OnOk result (Extends self.old.space.book self.new.space.book) }
         ensures nearer { OnOk result (left script.now self.new < left script.now self.old) }
     {
         let start = self.written();
-        match self.carry(script) {
+        match self.carry(script, steps) {
             Ok(Carried::Replied { change }) => self.settle(start, &change),
             Ok(Carried::Asked { left, right }) => {
                 let step = Step::Same {
@@ -277,11 +279,17 @@ impl Session {
     }
 
     /// Carries out the command at the place, as far as its reply.
-    fn carry<'s>(&mut self, script: &'s Script) -> Result<Carried<'s>, Fault>
+    fn carry<'s, L: Ledger>(
+        &mut self,
+        script: &'s Script,
+        steps: &mut Steps<L>,
+    ) -> Result<Carried<'s>, Fault>
         requires sound { IsSound script.now self.old }
         requires more { self.old.place < length (commands_of script.now self.old) }
         ensures carried { IfOk result (λ carried. Carries (plain_of script.now self.old) self.new.space (outcome_at script.now self.old) (toil_of (known_of self.old.space) (words (line_at script.now self.old))) (need_here script.now self.old) self.old.out self.new.out self.new.work carried) }
         ensures refused { IfErr result (λ fault. Refuses fault (outcome_at script.now self.old)) }
+        ensures lists { IfOk result (Lists (lines_here script.now self.old) steps.old steps.new) }
+        ensures unlisted { IfErr result (ListsNone (lines_here script.now self.old) steps.old steps.new) }
         ensures book { IsBookOf (plain_of script.now self.old) self.old.space self.new.space }
         ensures rest { self.new ≡ record self.old { out = self.new.out; space = self.new.space; work = self.new.work } }
         ensures unwritten { OnErr result (self.new.out ≡ self.old.out) }
@@ -298,6 +306,7 @@ impl Session {
             line,
             &mut self.out,
             &mut self.work,
+            steps,
         )
     }
 
@@ -313,7 +322,7 @@ impl Session {
         requires handed { IsHanded (plain_of script.now self.old) self.old.space.book self.old.work found }
         ensures said { OnOk result (said script.now self.new ≡ said script.now self.old) }
         ensures takes { IfOk result (λ step. MatchOption step (IsQuiet self.old self.new) (λ s. Takes script.now self.old self.new s × (¬ IsDone s))) }
-        ensures counts { IfOk result (λ step. Counts self.old self.new found steps.old steps.new step) }
+        ensures counts { IfOk result (λ step. Counts self.old self.new found (steps.old + lines_left script.now self.old) (steps.new + lines_left script.now self.new) step) }
         ensures sound { OnOk result (IsSound script.now self.new) }
         ensures number { OnOk result (self.new.number ≡ self.old.number) }
         ensures ids_stay { OnOk result (Extends self.old.space.book self.new.space.book) }
@@ -459,6 +468,7 @@ impl Session {
         ensures said { SaysOn result (said script.now self.old) (said script.now self.new) }
         ensures takes { Takes script.now self.old self.new result }
         ensures tame { IsTame result }
+        ensures lines { lines_left script.now self.new ≡ lines_left script.now self.old }
         ensures sound { IsSound script.now self.new }
         ensures number { self.new.number ≡ self.old.number }
         ensures ids_stay { Extends self.old.space.book self.new.space.book }

@@ -10,6 +10,9 @@
 --   codes_of s     == an item with the canonical sequences of its trees
 --   split_codes s  == the splittings of the tree that a code describes, so written
 --
+-- Children are taken as they come. Of a canonical tree, which each code describes, that is in canonical order; the trees of an
+-- item are canonical for any tree.
+--
 -- Source: Chartier, Hairer and Vilmart (2010), the subtrees that hold the root, in the composition law; the order of the list is this project's.
 -- The code walks one mask over the canonical sequence, in place of this recursion.
 use Rattle.std.specs.Prelude.{ℕ, List, [], ◌∷◌, ◌++◌, map, Option, Some, None, option_map}

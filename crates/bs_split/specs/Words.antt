@@ -5,6 +5,9 @@
 --   cuts_by f w        == the nodes whose letter is keep stay, each other one is cut off with all below it
 --   splits_by_words t  == nothing kept, then one item for each word that is a choice, in the order of the words
 --
+-- What one keep and one cut do to the trees below a node is taken over from the first definition (`keep`, `cut_off`); of its own
+-- this list has that an item is a word, which words count, and their order.
+--
 -- Source: this project's own.
 use Rattle.std.specs.Prelude.{◌≡◌, ℕ, zero, suc, List, [], ◌∷◌, ◌++◌, map, take, drop, Bool, true, false, cond, ◌&&◌, not, None, refl}
 use Rattle.std.specs.List.{filter}

@@ -7,6 +7,7 @@
 --   root_sum c S        == the sum, over stages i from the first up, of the terms with factors b[c][i], S[i]
 --   written_weight T    == the root sum of the root's colour and values
 --
+-- Children are taken as they come: of a canonical tree, which each code describes, in canonical order.
 -- Sums begin at 0 and products at 1; each is taken from the left. Over `checked` an overflow anywhere is an overflow.
 --
 -- Source: Butcher (2021), elementary weights by recursion; the order is this project's.

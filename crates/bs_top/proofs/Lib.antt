@@ -1,3 +1,5 @@
 pub mod Fronts
+mod Sessions
 mod Texts
 mod Runs
+mod Mades

@@ -1,4 +1,5 @@
 pub mod Output
 pub mod ErrorLines
 pub mod Run
+pub mod Made
 pub mod Examples

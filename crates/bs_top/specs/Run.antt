@@ -9,10 +9,11 @@
 --   IsRun .. allowed old new before after status == what holds of a run of this status, which found the source as `old`
 --                                           and left it as `new`, and the sink as `before` and `after`; where the
 --                                           words say that the input is to be read, as `allowed`, a status has to come
---   Answers r said                       == r is the text that is said, or the refusal; want of memory is free
+--   joined texts                         == the texts one after another
+--   Answers r said                       == r is the text that is said, in pieces, or the refusal; want of memory is free
 --
 -- Source: this project; `Rose`, `Adds` and `AddsFront` are those of sources and sinks (bs_io).
-use Rattle.std.specs.Prelude.{◌≡◌, ◌≢◌, ℕ, ◌+◌, ◌<◌, ◌≤◌, ◌⊎◌, List, [], length, Option, Some, IfSome, Result, Ok, Err, Vec}
+use Rattle.std.specs.Prelude.{◌≡◌, ◌≢◌, ℕ, ◌+◌, ◌<◌, ◌≤◌, ◌⊎◌, List, [], length, flat_map, Option, Some, IfSome, Result, Ok, Err, Vec}
 use Rattle.std.specs.declared.alloc.Global.{Global}
 use Rattle.bs_io.specs.Outside.{Rose, NoFault, TakesExactly, TakesAtMost, Adds, AddsFront}
 use Rattle.bs_top.specs.Output.{text_of}
@@ -59,6 +60,9 @@ abbrev pub Fails : ScriptFault → Result (List ℕ) (ℕ × Reason) → Type 0
 Fails (Refused line reason) said = said ≡ Err (line, reason)
 Fails (Memory cause) said = Unit {0}
 
-abbrev pub Answers : Result (Vec ℕ Global) ScriptFault → Result (List ℕ) (ℕ × Reason) → Type 0
-Answers (Ok text) said = said ≡ Ok text.items
+abbrev pub joined : List (Vec ℕ Global) → List ℕ
+joined texts = flat_map (λ text. text.items) texts
+
+abbrev pub Answers : Result (Vec (Vec ℕ Global) Global) ScriptFault → Result (List ℕ) (ℕ × Reason) → Type 0
+Answers (Ok texts) said = said ≡ Ok (joined texts.items)
 Answers (Err fault) said = Fails fault said

@@ -36,22 +36,29 @@ nth_rule : (old : Command) → app_of old ≡ app → (j : ℕ) (d : Arg) → j 
 nth_rule old is j d lt =
     sym (get_or-map rule_of (args_of old) j d (rule_of d) lt) ∙ ap (λ (a : App). slice_index_or a.top.rules j (rule_of d)) is
 
-pub two_options : (old : Command) → app_of old ≡ app → length (args_of old) ≡ 2
-two_options old is = sym (length-map (args_of old) rule_of) ∙ ap (λ (a : App). length a.top.rules) is
+pub three_options : (old : Command) → app_of old ≡ app → length (args_of old) ≡ 3
+three_options old is = sym (length-map (args_of old) rule_of) ∙ ap (λ (a : App). length a.top.rules) is
 
-distinct : (j k : ℕ) (d e : Rule) → j < 2 → k < 2 → bytes_eq (slice_index_or rules_of_app j d).id (slice_index_or rules_of_app k e).id ≡ true → j ≡ k
+distinct : (j k : ℕ) (d e : Rule) → j < 3 → k < 3 → bytes_eq (slice_index_or rules_of_app j d).id (slice_index_or rules_of_app k e).id ≡ true → j ≡ k
 distinct zero zero d e l m h = refl
 distinct zero (suc zero) d e l m h = cc
+distinct zero (suc (suc zero)) d e l m h = cc
 distinct (suc zero) zero d e l m h = cc
 distinct (suc zero) (suc zero) d e l m h = refl
-distinct (suc (suc j)) k d e l m h = absurd (omega arith)
-distinct zero (suc (suc k)) d e l m h = absurd (omega arith)
-distinct (suc zero) (suc (suc k)) d e l m h = absurd (omega arith)
+distinct (suc zero) (suc (suc zero)) d e l m h = cc
+distinct (suc (suc zero)) zero d e l m h = cc
+distinct (suc (suc zero)) (suc zero) d e l m h = cc
+distinct (suc (suc zero)) (suc (suc zero)) d e l m h = refl
+distinct (suc (suc (suc j))) k d e l m h = absurd (omega arith)
+distinct zero (suc (suc (suc k))) d e l m h = absurd (omega arith)
+distinct (suc zero) (suc (suc (suc k))) d e l m h = absurd (omega arith)
+distinct (suc (suc zero)) (suc (suc (suc k))) d e l m h = absurd (omega arith)
 
-simple_rule : (j : ℕ) (d : Rule) → j < 2 → (slice_index_or rules_of_app j d).is_simple ≡ true
+simple_rule : (j : ℕ) (d : Rule) → j < 3 → (slice_index_or rules_of_app j d).is_simple ≡ true
 simple_rule zero d l = refl
 simple_rule (suc zero) d l = refl
-simple_rule (suc (suc j)) d l = absurd (omega arith)
+simple_rule (suc (suc zero)) d l = refl
+simple_rule (suc (suc (suc j))) d l = absurd (omega arith)
 
 nothing_in : {X : Type 0} (xs : List X) → is_empty xs ≡ true → xs ≡ []
 nothing_in [] h = refl
@@ -63,7 +70,7 @@ is_not false h = refl
 
 no_groups_named : (old : Command) → app_of old ≡ app → NamesNoGroup old
 no_groups_named old is j d lt =
-    let simple = ap (λ (r : Rule). r.is_simple) (nth_rule old is j d lt) ∙ simple_rule j (rule_of d) (omega (arith, two_options old is)) in
+    let simple = ap (λ (r : Rule). r.is_simple) (nth_rule old is j d lt) ∙ simple_rule j (rule_of d) (omega (arith, three_options old is)) in
     nothing_in _ (both _ _ (both _ _ (both _ _ simple).1).1).0
 
 plain_top : (old : Command) → app_of old ≡ app → (groups_of old ≡ []) × ((out-Command old).has_globals ≡ false)
@@ -175,14 +182,14 @@ given_reads old m p no_names groups globals k d lt unique named own q parser t t
 
 -- the same of one of the command's options
 pub option_reads : (old : Command) (m : ArgMatches) (p : IsParsedFrom old m) → app_of old ≡ app
-    → (k : ℕ) (d : Arg) → k < 2 → (id : List ℕ) (q : ValueParser)
+    → (k : ℕ) (d : Arg) → k < 3 → (id : List ℕ) (q : ValueParser)
     → (slice_index_or rules_of_app k (rule_of d)).id ≡ id → (slice_index_or rules_of_app k (rule_of d)).parser ≡ Some q
     → (slice_index_or rules_of_app k (rule_of d)).ignore_case ≡ false
     → (id ≡ [] → ⊥) → (id ≡ codes "help" → ⊥) → (id ≡ codes "version" → ⊥)
     → (t : List ℕ) → one_text (found_of m) id ≡ Some t
     → (u : List ℕ) × (read_as (reading_of q) u ≡ t) × Accepts false q u
 option_reads old m p is k d lt id q id_is parser_is case_is named not_help not_version t text =
-    let long = two_options old is in
+    let long = three_options old is in
     let in_args : k < length (args_of old) = omega arith in
     let rule = nth_rule old is k d in_args in
     let its_id : (slice_index_or (args_of old) k d).id.now ≡ id = ap (λ (r : Rule). r.id) rule ∙ id_is in

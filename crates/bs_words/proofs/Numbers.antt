@@ -23,7 +23,7 @@ use Rattle.clap.specs.declared.parser.matches.ArgMatches.{ArgMatches}
 use Rattle.clap.proofs.OnLiterals.{clap_on_literals}
 use Rattle.clap.proofs.WalkLemmas.{one_text-rows}
 use Rattle.bs_words.specs.Words.{accepts, app, faults, number, number_of}
-use Rattle.bs_words.proofs.Found.{option_reads, rules_of_app, two_options}
+use Rattle.bs_words.proofs.Found.{option_reads, rules_of_app, three_options}
 
 -- a text that passed reads as its number
 pub reads_number : (E : Type 0) (G : List ℕ → Result ℕ E → Type 0) (low high : ℕ) (t : List ℕ) (r : Option ℕ)
@@ -57,13 +57,13 @@ free = refl
 differs : (a b : Text) → bytes_eq a b ≡ false → a ≡ b → ⊥
 differs a b apart same = let equal = (bytes_eq-Decides a b).1 same in let bad : false ≡ true = sym apart ∙ equal in cc
 
-first_arg : (xs : List Arg) → length xs ≡ 2 → Arg
+first_arg : (xs : List Arg) → length xs ≡ 3 → Arg
 first_arg [] e = absurd (omega arith)
 first_arg (a ∷ rest) e = a
 
 -- the option at place k of the command, as a getter reads it
 pub reads_of : (old : Command) (m : ArgMatches) (w : List Text) → app_of old ≡ app → IsParsedFrom old m → HasMatchesOf (app_of old) w m
-    → (k : ℕ) → k < 2 → (id : Text) (low high : ℕ)
+    → (k : ℕ) → k < 3 → (id : Text) (low high : ℕ)
     → ((d : Rule) → (slice_index_or rules_of_app k d).id ≡ id) → ((d : Rule) → (slice_index_or rules_of_app k d).parser ≡ Some (Unsigned low high))
     → ((d : Rule) → (slice_index_or rules_of_app k d).ignore_case ≡ false)
     → bytes_eq id [] ≡ false → bytes_eq id (codes "help") ≡ false → bytes_eq id (codes "version") ≡ false
@@ -76,7 +76,7 @@ reads_of old m w is p matches k lt id low high id_is parser_is case_is named not
     let rows : rows_of (found_of m) ≡ matches_of app w = (matches (ap is_simple is ∙ simple)).0 ∙ ap (λ (a : App). matches_of a w) is in
     let text : one_text (found_of m) id ≡ one_of id (matches_of app w) = one_text-rows (found_of m) id ∙ ap (one_of id) rows in
     let got = reads_option E G low high (one_text (found_of m) id) r only none some (λ t e.
-    let d = first_arg (args_of old) (two_options old is) in
+    let d = first_arg (args_of old) (three_options old is) in
     let u = option_reads old m p is k d lt id (Unsigned low high) (id_is (rule_of d)) (parser_is (rule_of d)) (case_is (rule_of d))
     (differs id [] named) (differs id (codes "help") not_help) (differs id (codes "version") not_version) t e in
     subst (λ (s : List ℕ). IsUnsignedIn low high s) u.1 u.2) in

@@ -4,7 +4,7 @@
 use Rattle.std.specs.Prelude.{◌≡◌, [], ◌∷◌, None, Some, true, codes, refl}
 use Rattle.clap.proofs.OnLiterals.{clap_on_literals}
 use Rattle.clap.specs.declared.error.ErrorKind.TheVariants.{UnknownArgument, ValueValidation, ArgumentConflict, DisplayHelp, InvalidValue}
-use Rattle.bs_words.specs.Words.{accepts, faults, memo_of, number_of, workers_of}
+use Rattle.bs_words.specs.Words.{accepts, faults, memo_of, number_of, seed_of, workers_of}
 
 -- no word is a program's name
 stray : faults (codes "x" ∷ []) ≡ UnknownArgument ∷ []
@@ -72,10 +72,26 @@ version : faults (codes "--version" ∷ []) ≡ UnknownArgument ∷ []
 unfolding faults clap_on_literals
 version = refl
 
--- a seed is no option
-seed : faults (codes "--make" ∷ codes "7" ∷ []) ≡ UnknownArgument ∷ []
+no_seed : seed_of [] ≡ None
+unfolding number_of clap_on_literals
+no_seed = refl
+
+-- the largest seed, and what is no seed
+largest_seed_taken : accepts (codes "--make" ∷ codes "18446744073709551615" ∷ []) ≡ true
+unfolding accepts clap_on_literals
+largest_seed_taken = refl
+
+largest_seed : seed_of (codes "--make" ∷ codes "18446744073709551615" ∷ []) ≡ Some 18446744073709551615
+unfolding number_of clap_on_literals
+largest_seed = refl
+
+past_largest_seed : faults (codes "--make=18446744073709551616" ∷ []) ≡ ValueValidation ∷ []
 unfolding faults clap_on_literals
-seed = refl
+past_largest_seed = refl
+
+negative_seed : faults (codes "--make" ∷ codes "-1" ∷ []) ≡ UnknownArgument ∷ []
+unfolding faults clap_on_literals
+negative_seed = refl
 
 -- a memo of no entry, and one past the largest
 both_given : memo_of (codes "--workers" ∷ codes "64" ∷ codes "--memo" ∷ codes "0" ∷ []) ≡ 0

@@ -1,7 +1,7 @@
 //! The words as options.
 ghost use Rattle.std.specs.Prelude.{◌≡◌, ◌≢◌, ◌≤◌, ◌⊎◌, [], true, IfOk, IfSome};
 ghost use Rattle.clap.specs.Words.{app_of};
-ghost use Rattle.bs_words.specs.Words.{accepts, app, faults, memo_of, texts, workers_of};
+ghost use Rattle.bs_words.specs.Words.{accepts, app, faults, memo_of, seed_of, texts, workers_of};
 
 use clap::error::ErrorKind;
 use clap::{Arg, ArgAction, Command, value_parser};
@@ -14,6 +14,8 @@ pub struct Options {
     pub workers: Option<usize>,
     /// How many values may be remembered from one session to another, at most 1,048,576.
     pub memo: usize,
+    /// The seed of a made input, which then stands in place of the one that is read.
+    pub seed: Option<u64>,
 }
 
 /// Why the words give no options.
@@ -41,6 +43,7 @@ pub fn read_words(alloc: Global, words: &[String]) -> Result<Options, WordsFault
 
     ensures workers_as_given { IfOk result (λ options. options.workers ≡ workers_of (texts words.now)) }
     ensures memo_as_given { IfOk result (λ options. options.memo ≡ memo_of (texts words.now)) }
+    ensures seed_as_given { IfOk result (λ options. options.seed ≡ seed_of (texts words.now)) }
     ensures one_to_64_workers { IfOk result (λ options. IfSome options.workers (λ n. (1 ≤ n) × (n ≤ 64))) }
     ensures memo_in_its_limit { IfOk result (λ options. options.memo ≤ 1048576) }
 {
@@ -52,6 +55,7 @@ pub fn read_words(alloc: Global, words: &[String]) -> Result<Options, WordsFault
         Ok(matches) => Ok(Options {
             workers: matches.get_one::<usize>("workers"),
             memo: matches.get_one::<usize>("memo").unwrap_or(MEMO),
+            seed: matches.get_one::<u64>("make"),
         }),
         Err(error) => match error.kind() {
             ErrorKind::OutOfMemory => Err(WordsFault::Memory(AllocError)),
@@ -60,7 +64,7 @@ pub fn read_words(alloc: Global, words: &[String]) -> Result<Options, WordsFault
     }
 }
 
-// The command: two options, each once, and no program's name before them.
+// The command: three options, each once, and no program's name before them.
 fn command<'a>(alloc: Global) -> Result<Command<'a>, AllocError>
     ensures { IfOk result (λ c. app_of c ≡ app) }
 {
@@ -72,8 +76,13 @@ fn command<'a>(alloc: Global) -> Result<Command<'a>, AllocError>
         .long("memo")
         .action(ArgAction::Set)
         .value_parser(value_parser!(usize).range(..=1_048_576));
+    let make = Arg::new(alloc, "make")
+        .long("make")
+        .action(ArgAction::Set)
+        .value_parser(value_parser!(u64));
     Command::new(alloc, "bseries")
         .no_binary_name(true)
         .arg(workers)?
-        .arg(memo)
+        .arg(memo)?
+        .arg(make)
 }

@@ -3,7 +3,7 @@
 #![tactic(auto)]
 
 use bs_io::{StdSink, StdSource};
-use bs_top::{Status, report, run_alone};
+use bs_top::{OpenGate, Status, report, run_main};
 use std::env;
 use std::io::{self, ErrorKind};
 use std::process::ExitCode;
@@ -18,7 +18,15 @@ fn main(rt: HostRuntime) -> ExitCode {
     let mut sink = StdSink::new(rt.stdout());
     let mut errs = StdSink::new(rt.stderr());
     let status = match words(&rt) {
-        Ok(words) => run_alone(rt.alloc(), &words, &mut source, &mut sink, &mut errs),
+        Ok(words) => run_main(
+            &rt,
+            rt.alloc(),
+            &words,
+            &mut source,
+            &mut sink,
+            &mut errs,
+            &OpenGate,
+        ),
         Err(error) => {
             let status = match error.kind() {
                 ErrorKind::OutOfMemory => Status::NoMemory,

@@ -1,7 +1,8 @@
-use Rattle.std.proofs.Common.{◌≡◌}
-use Rattle.bs_session.specs.Machine.{session_at, plain_of, found_of, said, left, IsSound, IsTruthful}
+use Rattle.std.proofs.Common.{◌≡◌, ◌+◌}
+use Rattle.bs_session.specs.Machine.{session_at, plain_of, found_of, said, lines_left, left, IsSound, IsTruthful}
 use Rattle.bs_session.specs.Replies.{session_replies}
 use Rattle.bs_session.specs.Needed.{session_need}
+use Rattle.bs_session.specs.Listing.{session_listed}
 use Rattle.bs_alone.specs.Fits.{Fits}
 use Rattle.bs_drive.specs.Alone.{AreKept}
 use Rattle.bs_drive.specs.Once.{IsOnce}
@@ -15,7 +16,7 @@ invariant-steps g l = record {
   kept : AreKept l.codes.items l.session;
   fits : Fits (plain_of l.script l.session) l.session.space.book l.sheet;
   number : l.session.number ≡ l.number;
-  once : IsOnce (session_need l.script (session_at l.script l.number)) l.session (found_of l.given) l.sheet l.fn.steps l.steps;
+  once : IsOnce (session_need l.script (session_at l.script l.number)) l.session (found_of l.given) l.sheet (l.fn.steps + session_listed l.script (session_at l.script l.number)) (l.steps + lines_left l.script l.session);
 }
 
 abbrev pub decreases-steps : goal.decreases-steps

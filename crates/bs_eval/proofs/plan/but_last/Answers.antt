@@ -15,20 +15,20 @@ use Rattle.bs_eval.proofs.plan.but_last.Goals as goal
 pub overflow_sub-count : goal.overflow_sub-count
 overflow_sub-count c =
     let cs = c.args.trees.now.codes in let code = code_at cs c.args.tree in
-    let ok = split_rows_are cs c.splits-rows.result.now code (c.splits-rows.ensures code (numbers_in cs c.args.tree c.requires.tree)) in
+    let ok = split_rows_are cs c.splits-rows.result.now code (c.splits-rows.ensures.rows code (numbers_in cs c.args.tree c.requires.tree)) in
     let l = ok.count in let s = split_rows_some code in
     omega (arith, l, s, c.len-count.ensures)
 
 pub term-requires-clause-some : goal.term-requires-clause-some
 term-requires-clause-some c =
     let cs = c.args.trees.now.codes in let code = code_at cs c.args.tree in
-    let ok = split_rows_are cs c.splits-rows.result.now code (c.splits-rows.ensures code (numbers_in cs c.args.tree c.requires.tree)) in
+    let ok = split_rows_are cs c.splits-rows.result.now code (c.splits-rows.ensures.rows code (numbers_in cs c.args.tree c.requires.tree)) in
     ok.some
 
 pub returns-clause-is : goal.returns-clause-is
 returns-clause-is c = λ es.
     let cs = c.args.trees.now.codes in let code = code_at cs c.args.tree in
-    let ok = split_rows_are cs c.splits-rows.result.now code (c.splits-rows.ensures code (numbers_in cs c.args.tree c.requires.tree)) in
+    let ok = split_rows_are cs c.splits-rows.result.now code (c.splits-rows.ensures.rows code (numbers_in cs c.args.tree c.requires.tree)) in
     let l = ok.count in let s = split_rows_some code in
     let e : suc (c.len-count.result - 1) ≡ length c.splits-rows.result.now = omega (arith, l, s, c.len-count.ensures) in
     subst (λ ls. IsTermAt es cs (split_steps es (subtracting c.args.own c.args.of c.args.turned) code ls) c.args.place c.term.result)
@@ -38,5 +38,5 @@ returns-clause-is c = λ es.
 pub returns-clause-known : goal.returns-clause-known
 returns-clause-known c = λ n a b.
     let cs = c.args.trees.now.codes in let code = code_at cs c.args.tree in
-    let ok = split_rows_are cs c.splits-rows.result.now code (c.splits-rows.ensures code (numbers_in cs c.args.tree c.requires.tree)) in
+    let ok = split_rows_are cs c.splits-rows.result.now code (c.splits-rows.ensures.rows code (numbers_in cs c.args.tree c.requires.tree)) in
     c.term.ensures.known n (length cs) (record { kept = a; cut = b }) c.requires.tree ok.inside

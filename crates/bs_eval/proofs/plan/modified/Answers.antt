@@ -11,18 +11,18 @@ use Rattle.bs_eval.proofs.plan.modified.Goals as goal
 pub term-requires : goal.term-requires
 term-requires c =
     let cs = c.args.trees.now.codes in let code = code_at cs c.args.tree in
-    let ok = part_rows_are cs c.parts.result.now code (c.parts.ensures code (numbers_in cs c.args.tree c.requires.tree)) in
+    let ok = part_rows_are cs c.parts.result.now code (c.parts.ensures.rows code (numbers_in cs c.args.tree c.requires.tree)) in
     ok.some
 
 pub returns-clause-is : goal.returns-clause-is
 returns-clause-is c = λ es.
     let cs = c.args.trees.now.codes in let code = code_at cs c.args.tree in
-    let ok = part_rows_are cs c.parts.result.now code (c.parts.ensures code (numbers_in cs c.args.tree c.requires.tree)) in
+    let ok = part_rows_are cs c.parts.result.now code (c.parts.ensures.rows code (numbers_in cs c.args.tree c.requires.tree)) in
     later_term es cs (part_step es (later None c.args.own)) (part_rows code) _ c.args.place c.term.result (omega arith)
     (subst (λ ls. IsTermAt es cs (map (part_step es (later None c.args.own)) ls) c.args.place c.term.result) ok.are (c.term.ensures.is es cs))
 
 pub returns-clause-known : goal.returns-clause-known
 returns-clause-known c = λ n a b.
     let cs = c.args.trees.now.codes in let code = code_at cs c.args.tree in
-    let ok = part_rows_are cs c.parts.result.now code (c.parts.ensures code (numbers_in cs c.args.tree c.requires.tree)) in
+    let ok = part_rows_are cs c.parts.result.now code (c.parts.ensures.rows code (numbers_in cs c.args.tree c.requires.tree)) in
     c.term.ensures.known n (length cs) (record { outer = tt; inner = a }) ok.inside

@@ -15,13 +15,13 @@ use Rattle.bs_eval.proofs.plan.modifying.Goals as goal
 pub term-requires : goal.term-requires
 term-requires c =
     let cs = c.args.trees.now.codes in let code = code_at cs c.args.spot.now.tree in
-    let ok = part_rows_are cs c.parts-rows.result.now code (c.parts-rows.ensures code (numbers_in cs c.args.spot.now.tree c.requires.tree)) in
+    let ok = part_rows_are cs c.parts-rows.result.now code (c.parts-rows.ensures.rows code (numbers_in cs c.args.spot.now.tree c.requires.tree)) in
     ok.some
 
 pub returns-then-place-len-clause-is : goal.returns-then-place-len-clause-is
 returns-then-place-len-clause-is c = λ es.
     let cs = c.args.trees.now.codes in let code = code_at cs c.args.spot.now.tree in
-    let ok = part_rows_are cs c.parts-rows.result.now code (c.parts-rows.ensures code (numbers_in cs c.args.spot.now.tree c.requires.tree)) in
+    let ok = part_rows_are cs c.parts-rows.result.now code (c.parts-rows.ensures.rows code (numbers_in cs c.args.spot.now.tree c.requires.tree)) in
     let l = ok.count in let s = part_rows_some code in
     let f = part_step es (later (Some c.args.of) c.args.own) in
     let first = single_step Add (at (exact 1) code) in
@@ -31,7 +31,7 @@ returns-then-place-len-clause-is c = λ es.
 pub returns-clause-is : goal.returns-clause-is
 returns-clause-is c = λ es.
     let cs = c.args.trees.now.codes in let code = code_at cs c.args.spot.now.tree in
-    let ok = part_rows_are cs c.parts-rows.result.now code (c.parts-rows.ensures code (numbers_in cs c.args.spot.now.tree c.requires.tree)) in
+    let ok = part_rows_are cs c.parts-rows.result.now code (c.parts-rows.ensures.rows code (numbers_in cs c.args.spot.now.tree c.requires.tree)) in
     let l = ok.count in let s = part_rows_some code in
     inner_term es cs (part_step es (later (Some c.args.of) c.args.own)) (part_rows code) _ _ c.args.place c.term.result (omega arith) s (omega (arith, l, c.len.ensures, c.if-place-len.false))
     (subst (λ ls. IsTermAt es cs (map (part_step es (later (Some c.args.of) c.args.own)) ls) c.args.place c.term.result) ok.are (c.term.ensures.is es cs))
@@ -39,5 +39,5 @@ returns-clause-is c = λ es.
 pub returns-clause-known : goal.returns-clause-known
 returns-clause-known c = λ n a b.
     let cs = c.args.trees.now.codes in let code = code_at cs c.args.spot.now.tree in
-    let ok = part_rows_are cs c.parts-rows.result.now code (c.parts-rows.ensures code (numbers_in cs c.args.spot.now.tree c.requires.tree)) in
+    let ok = part_rows_are cs c.parts-rows.result.now code (c.parts-rows.ensures.rows code (numbers_in cs c.args.spot.now.tree c.requires.tree)) in
     c.term.ensures.known n (length cs) (record { outer = b; inner = a }) ok.inside

@@ -1,4 +1,5 @@
-use Rattle.std.proofs.Common.{◌≡◌, ◌*◌, ◌++◌, ◌∙◌, ℕ, List, [], length, ap, ap₂, sym, arith, append_assoc}
+use Rattle.std.proofs.Common.{◌≡◌, ◌+◌, ◌*◌, ◌++◌, ◌∙◌, ℕ, List, [], length, ap, ap₂, sym, arith, append_assoc}
+use Rattle.std.proofs.lemmas.Option.{slice_get_within}
 use Rattle.std.proofs.lemmas.Result.{on_ok_weaker}
 use Rattle.bs_tree.specs.Code.{IsCode}
 use Rattle.bs_part.specs.Partition.{part_codes}
@@ -11,8 +12,13 @@ use Rattle.bs_listing.proofs.Fronts.{front_on}
 use Rattle.bs_listing.proofs.Replies.{partition_reply_of, part_count, parts_fit, part_lines}
 use Rattle.bs_listing.proofs.parts.push_halved.Goals as goal
 
+pub parts-requires-2 : goal.parts-requires-2
+parts-requires-2 g c =
+    let rest = without_first c.args.code in
+    slice_get_within c.parts.new.self.codes c.args.halves.rest rest (c.in_ok-kids.ensures.grows.codes c.args.halves.rest rest c.requires.rest_is)
+
 pub count_parts-requires : goal.count_parts-requires
-count_parts-requires c =
+count_parts-requires g c =
     let code : IsCode c.args.code = assumption (c.well_formed) in
     let s = c.args.code in
     let x = c.requires.first in
@@ -29,7 +35,7 @@ count_parts-requires c =
     record { few = omega (arith, all, part_count s x code c.requires.is_first, parts_fit s code) }
 
 pub push_joined-requires : goal.push_joined-requires
-push_joined-requires c =
+push_joined-requires g c =
     let s = c.args.code in
     let x = c.requires.first in
     let cs = c.parts-2.new.self.codes in
@@ -41,7 +47,7 @@ push_joined-requires c =
     record { kids = sides.kids_texts; rest = sides.rest_texts }
 
 pub push_severed-requires : goal.push_severed-requires
-push_severed-requires c =
+push_severed-requires g c =
     let s = c.args.code in
     let x = c.requires.first in
     let cs = c.parts-2.new.self.codes in
@@ -59,7 +65,7 @@ push_severed-requires c =
     }
 
 pub returns-clause-written : goal.returns-clause-written
-returns-clause-written c =
+returns-clause-written g c =
     let code : IsCode c.args.code = assumption (c.well_formed) in
     let s = c.args.code in
     let x = c.requires.first in
@@ -94,7 +100,27 @@ returns-clause-written c =
     c.push_severed.ensures.written
 
 pub returns-in_err-push_joined-clause-front : goal.returns-in_err-push_joined-clause-front
-returns-in_err-push_joined-clause-front c = front_on c.push_count.ensures.front c.push_joined.ensures.front
+returns-in_err-push_joined-clause-front g c = front_on c.push_count.ensures.front c.push_joined.ensures.front
 
 pub returns-clause-front : goal.returns-clause-front
-returns-clause-front c = front_on (front_on c.push_count.ensures.front c.push_joined.ensures.front) c.push_severed.ensures.front
+returns-clause-front g c = front_on (front_on c.push_count.ensures.front c.push_joined.ensures.front) c.push_severed.ensures.front
+
+pub returns-clause-counted : goal.returns-clause-counted
+returns-clause-counted g c =
+    let code : IsCode c.args.code = assumption (c.well_formed) in
+    let s = c.args.code in
+    let x = c.requires.first in
+    let ks = parted_items x in
+    let rs = parted_items (without_first s) in
+    let kids = c.in_ok-kids.kids in
+    let rest = c.in_ok-rest.rest in
+    let sides : PartSides c.parts-2.new.self.codes s x kids.crowns.items kids.texts rest.crowns.items rest.texts =
+    part_sides c.args.scribe.now.codes c.parts.new.self.codes c.parts-2.new.self.codes s c.args.halves.child c.args.halves.rest kids.crowns.items kids.texts rest.crowns.items rest.texts
+    c.requires c.in_ok-kids.ensures.grows.codes c.in_ok-rest.ensures.grows.codes c.in_ok-kids.ensures.are c.in_ok-rest.ensures.are in
+    let m : length kids.crowns.items ≡ length ks = omega (arith, sides.kids_count) in
+    let n : length rest.crowns.items ≡ length rs = omega (arith, sides.rest_count) in
+    let all : length kids.crowns.items * length rest.crowns.items ≡ length ks * length rs = ap₂ (λ (a b : ℕ). a * b) m n in
+    on_ok_weaker c.push_severed.result
+    (λ (e : c.push_severed.new.steps ≡ c.push_joined.new.steps + length kids.crowns.items * length rest.crowns.items).
+    omega (arith, e, c.in_ok-push_joined.ensures.counted, all, part_count s x code c.requires.is_first))
+    c.push_severed.ensures.counted

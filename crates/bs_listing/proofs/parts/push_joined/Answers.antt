@@ -1,19 +1,20 @@
 use Rattle.std.proofs.Common.{◌<◌, length, append-nil, refl, sym, arith}
 use Rattle.std.proofs.lemmas.Option.{slice_get_read}
 use Rattle.bs_catalog.proofs.Shelving.{grows_refl, grows_on}
-use Rattle.bs_listing.proofs.Fronts.{front_refl, front_on}
+use Rattle.bs_listing.proofs.Fronts.{front_refl, front_on, row_more}
 use Rattle.bs_listing.proofs.Lines.{all_joined_more, all_joined_all}
 use Rattle.bs_listing.proofs.parts.push_joined.Goals as goal
 
 pub kids-init : goal.kids-init
-kids-init c = record {
+kids-init g c = record {
   grows = grows_refl c.args.scribe.now;
   written = λ ks rs kids_are are. sym (append-nil c.args.out.now.items);
+  counted = omega arith;
   front = front_refl c.args.out.now.items;
 }
 
 pub kids-preserved : goal.kids-preserved
-kids-preserved c =
+kids-preserved g c =
     let kids = c.args.kids.now.crowns.items in
     let i = c.kids.place in
     let below = c.index.result.now in
@@ -23,16 +24,17 @@ kids-preserved c =
       written = all_joined_more c.args.scribe.now.codes c.kids.scribe.codes kids c.args.kids.now.texts c.args.rest.now.crowns.items c.args.rest.now.texts i below c.get.result.now
           c.args.out.now.items c.kids.out.items c.push_joined_under.new.out.items c.kids.invariant.grows.codes (slice_get_read kids (length kids) i below refl inside c.index.ensures)
           c.get.ensures c.in_ok-push_joined_under.ensures.written c.kids.invariant.written;
+      counted = omega (arith, c.kids.invariant.counted, c.in_ok-push_joined_under.ensures.counted, row_more c.kids.place (length c.args.rest.now.crowns.items));
       front = front_on c.kids.invariant.front c.push_joined_under.ensures.front;
     }
 
 pub returns-in_err-push_joined_under-clause-grows : goal.returns-in_err-push_joined_under-clause-grows
-returns-in_err-push_joined_under-clause-grows c = grows_on c.kids.invariant.grows c.push_joined_under.ensures.grows
+returns-in_err-push_joined_under-clause-grows g c = grows_on c.kids.invariant.grows c.push_joined_under.ensures.grows
 
 pub returns-in_err-push_joined_under-clause-front : goal.returns-in_err-push_joined_under-clause-front
-returns-in_err-push_joined_under-clause-front c = front_on c.kids.invariant.front c.push_joined_under.ensures.front
+returns-in_err-push_joined_under-clause-front g c = front_on c.kids.invariant.front c.push_joined_under.ensures.front
 
 pub returns-clause-written : goal.returns-clause-written
-returns-clause-written c =
+returns-clause-written g c =
     all_joined_all c.args.scribe.now.codes c.args.kids.now.crowns.items c.args.kids.now.texts c.args.rest.now.crowns.items c.args.rest.now.texts c.kids.place c.args.out.now.items
     c.kids.out.items (omega (arith, c.args.kids.now.crowns.ok.0)) c.kids.invariant.written

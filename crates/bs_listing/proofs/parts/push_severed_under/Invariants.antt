@@ -1,11 +1,13 @@
+use Rattle.std.proofs.Common.{◌≡◌, ◌+◌}
 use Rattle.bs_catalog.specs.Shelf.{Grows}
 use Rattle.bs_listing.specs.Texts.{IsFront}
 use Rattle.bs_listing.proofs.Lines.{SeveredSoFar}
 use Rattle.bs_listing.proofs.parts.push_severed_under.Given as goal
 
 abbrev pub invariant-rest : goal.invariant-rest
-invariant-rest l = record {
+invariant-rest g l = record {
   grows : Grows l.fn.scribe l.scribe;
   written : SeveredSoFar l.fn.scribe.codes l.hung l.parts l.rest.crowns.items l.rest.texts l.place l.fn.out.items l.out.items;
+  counted : l.steps ≡ l.fn.steps + l.place;
   front : IsFront l.fn.out.items l.out.items;
 }

@@ -7,10 +7,10 @@ use Rattle.bs_listing.proofs.Lines.{WritesLine, cut_off_more, cut_off_all}
 use Rattle.bs_listing.proofs.splits.push_cut_off.Goals as goal
 
 pub rest-init : goal.rest-init
-rest-init c = record { same = refl; written = λ x rs cut_is are. sym (append-nil c.args.out.now.items); front = front_refl c.args.out.now.items }
+rest-init g c = record { same = refl; written = λ x rs cut_is are. sym (append-nil c.args.out.now.items); counted = omega arith; front = front_refl c.args.out.now.items }
 
 pub push_line-requires : goal.push_line-requires
-push_line-requires c =
+push_line-requires g c =
     let heads = c.args.rest.now.heads.items in
     let i = c.rest.place in
     let n = c.index.result.now in
@@ -20,7 +20,7 @@ push_line-requires c =
     subst (λ (s : Shelf). n < length s.codes) (sym c.rest.invariant.same) (omega (arith, below, c.index.ensures))
 
 pub rest-preserved : goal.rest-preserved
-rest-preserved c =
+rest-preserved g c =
     let heads = c.args.rest.now.heads.items in
     let i = c.rest.place in
     let n = c.index.result.now in
@@ -35,16 +35,17 @@ rest-preserved c =
       same = c.push_line.ensures.same ∙ c.rest.invariant.same;
       written = cut_off_more c.args.scribe.now.codes cut heads c.args.rest.now.texts i n end c.args.out.now.items now later (slice_get_read heads (length heads) i n refl inside c.index.ensures)
           c.get.ensures line c.rest.invariant.written;
+      counted = omega (arith, c.rest.invariant.counted, c.push_line.ensures.counted);
       front = front_on c.rest.invariant.front c.push_line.ensures.front;
     }
 
 pub returns-in_err-push_line-clause-same : goal.returns-in_err-push_line-clause-same
-returns-in_err-push_line-clause-same c = c.push_line.ensures.same ∙ c.rest.invariant.same
+returns-in_err-push_line-clause-same g c = c.push_line.ensures.same ∙ c.rest.invariant.same
 
 pub returns-in_err-push_line-clause-front : goal.returns-in_err-push_line-clause-front
-returns-in_err-push_line-clause-front c = front_on c.rest.invariant.front c.push_line.ensures.front
+returns-in_err-push_line-clause-front g c = front_on c.rest.invariant.front c.push_line.ensures.front
 
 pub returns-clause-written : goal.returns-clause-written
-returns-clause-written c =
+returns-clause-written g c =
     cut_off_all c.args.scribe.now.codes c.args.cut.now c.args.rest.now.heads.items c.args.rest.now.texts c.rest.place c.args.out.now.items c.rest.out.items
     (omega (arith, c.args.rest.now.heads.ok.0)) c.rest.invariant.written

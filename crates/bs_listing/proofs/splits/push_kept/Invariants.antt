@@ -1,11 +1,13 @@
+use Rattle.std.proofs.Common.{◌≡◌, ◌+◌, ◌*◌, length}
 use Rattle.bs_catalog.specs.Shelf.{Grows}
 use Rattle.bs_listing.specs.Texts.{IsFront}
 use Rattle.bs_listing.proofs.Lines.{KeptSoFar}
 use Rattle.bs_listing.proofs.splits.push_kept.Given as goal
 
 abbrev pub invariant-kids : goal.invariant-kids
-invariant-kids l = record {
+invariant-kids g l = record {
   grows : Grows l.fn.scribe l.scribe;
   written : KeptSoFar l.fn.scribe.codes l.kids.heads.items l.kids.texts l.rest.heads.items l.rest.texts l.place l.fn.out.items l.out.items;
+  counted : l.steps ≡ l.fn.steps + l.place * length l.rest.heads.items;
   front : IsFront l.fn.out.items l.out.items;
 }

@@ -1,14 +1,14 @@
-use Rattle.std.proofs.Common.{◌≡◌, ◌++◌, ◌∙◌, ℕ, List, ap, append_assoc}
+use Rattle.std.proofs.Common.{◌≡◌, ◌++◌, ◌∙◌, ℕ, List, ap, append_assoc, arith}
 use Rattle.bs_tree.specs.Code.{IsCode}
 use Rattle.bs_listing.specs.Texts.{head_text}
 use Rattle.bs_listing.specs.Sides.{line_end}
-use Rattle.bs_listing.proofs.Fronts.{front_on, front_if, appended}
+use Rattle.bs_listing.proofs.Fronts.{front_on, front_if, appended, on_ok_any}
 use Rattle.bs_listing.proofs.Replies.{split_reply_of, leaf_split_count, leaf_split_line}
 use Rattle.std.proofs.lemmas.Result.{on_ok_weaker}
 use Rattle.bs_listing.proofs.splits.push_leaf.Goals as goal
 
 pub returns-clause-written : goal.returns-clause-written
-returns-clause-written c =
+returns-clause-written g c =
     let code : IsCode c.args.code = assumption (c.well_formed) in
     let s = c.args.code in
     let out = c.args.out.now.items in
@@ -22,9 +22,14 @@ returns-clause-written c =
     (appended c.extend_from_slice.result mid line_end later c.extend_from_slice.ensures.items)
 
 pub returns-in_err-push_head-clause-front : goal.returns-in_err-push_head-clause-front
-returns-in_err-push_head-clause-front c = front_on c.push_front.ensures.front c.push_head.ensures.front
+returns-in_err-push_head-clause-front g c = front_on c.push_front.ensures.front c.push_head.ensures.front
 
 pub returns-clause-front : goal.returns-clause-front
-returns-clause-front c =
+returns-clause-front g c =
     front_on (front_on c.push_front.ensures.front c.push_head.ensures.front)
     (front_if c.extend_from_slice.result c.push_head.new.out.items line_end c.extend_from_slice.new.self.items c.extend_from_slice.ensures.items)
+
+pub returns-clause-counted : goal.returns-clause-counted
+returns-clause-counted g c =
+    let code : IsCode c.args.code = assumption (c.well_formed) in
+    on_ok_any c.extend_from_slice.result (omega (arith, c.in_ok-push_front.ensures.counted, c.tick.ensures, leaf_split_count c.args.code code c.requires.leaf))

@@ -33,14 +33,20 @@ returns c =
     let memo_parser : c.range-2.result ≡ Unsigned 0 1048576 = rw c.value_parser-2.ensures at c.range-2.ensures in
     let workers_bare : rule_of c.action.result ≡ bare (codes "workers") = search rules in
     let memo_bare : rule_of c.action-2.result ≡ bare (codes "memo") = search rules in
+    let make_bare : rule_of c.action-3.result ≡ bare (codes "make") = search rules in
     let workers_given = c.value_parser-workers.ensures.given in
     let memo_given = c.value_parser-memo.ensures.given in
+    let make_given = c.value_parser-make.ensures.given in
     let workers_is : rule_of c.value_parser-workers.result ≡ option (codes "workers") (Unsigned 1 64) =
     with_parser _ c.action.result c.value_parser-workers.result _ workers_bare c.value_parser-workers.ensures.others (workers_given.1 ∙ ap (λ (q : ValueParser). Some q) (workers_given.2 ∙ workers_parser)) in
     let memo_is : rule_of c.value_parser-memo.result ≡ option (codes "memo") (Unsigned 0 1048576) =
     with_parser _ c.action-2.result c.value_parser-memo.result _ memo_bare c.value_parser-memo.ensures.others (memo_given.1 ∙ ap (λ (q : ValueParser). Some q) (memo_given.2 ∙ memo_parser)) in
+    let make_is : rule_of c.value_parser-make.result ≡ option (codes "make") (Unsigned 0 18446744073709551615) =
+    with_parser _ c.action-3.result c.value_parser-make.result _ make_bare c.value_parser-make.ensures.others (make_given.1 ∙ ap (λ (q : ValueParser). Some q) (make_given.2 ∙ c.value_parser-3.ensures)) in
     let start : app_of c.no_binary_name.result ≡ nameless (new_app (codes "bseries")) =
-    ap app_of_fields c.no_binary_name.ensures ∙ ap nameless c.new-4.ensures.app in
+    ap app_of_fields c.no_binary_name.ensures ∙ ap nameless c.new-5.ensures.app in
     let one : app_of c.in_ok-arg.field-0 ≡ with_rule (nameless (new_app (codes "bseries"))) (option (codes "workers") (Unsigned 1 64)) =
     c.in_ok-arg.ensures.shape (search rules) ∙ ap₂ with_rule start workers_is in
-    IfOk-weaker c.arg-2.result _ _ (λ r h. h.shape (search rules) ∙ ap₂ with_rule one memo_is) c.arg-2.ensures
+    let two : app_of c.in_ok-arg-2.field-0 ≡ with_rule (with_rule (nameless (new_app (codes "bseries"))) (option (codes "workers") (Unsigned 1 64))) (option (codes "memo") (Unsigned 0 1048576)) =
+    c.in_ok-arg-2.ensures.shape (search rules) ∙ ap₂ with_rule one memo_is in
+    IfOk-weaker c.arg-3.result _ _ (λ r h. h.shape (search rules) ∙ ap₂ with_rule two make_is) c.arg-3.ensures

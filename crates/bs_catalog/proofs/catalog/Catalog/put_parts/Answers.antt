@@ -1,14 +1,19 @@
 use Rattle.std.proofs.Common.{◌≡◌, ◌<◌, ℕ, List, length, sym, subst}
 use Rattle.std.proofs.lemmas.Result.{on_ok_weaker}
+use Rattle.bs_split.specs.Splitting.{init}
+use Rattle.bs_part.specs.Partition.{tail}
 use Rattle.bs_catalog.specs.Shelf.{Shelf, Numbers, AreRows, split_rows, part_rows, rows_at, Grows}
 use Rattle.bs_catalog.specs.Making.{without_first}
 use Rattle.bs_catalog.proofs.Shelving.{holds_more, holds_put, read_held, part_rows_made, some_part_rows, stays_made}
+use Rattle.bs_catalog.proofs.Grouping.{groups_stay, groups_forgotten}
 use Rattle.bs_catalog.proofs.catalog.Catalog.put_parts.Goals as goal
 
 pub invariant_of-self : goal.invariant_of-self
 invariant_of-self c = (
   holds_more split_rows c.self.inside.arena c.parts_by.new.arena c.self.inside.split_lists.items c.parts_by.ensures.grows c.self.invariant.0,
   holds_more part_rows c.self.inside.arena c.parts_by.new.arena c.self.inside.part_lists.items c.parts_by.ensures.grows c.self.invariant.1,
+  groups_stay init c.self.inside.arena c.parts_by.new.arena c.self.inside.split_lists.items c.self.inside.split_groups.items c.parts_by.ensures.grows c.self.invariant.2,
+  groups_stay tail c.self.inside.arena c.parts_by.new.arena c.self.inside.part_lists.items c.self.inside.part_groups.items c.parts_by.ensures.grows c.self.invariant.3,
 )
 
 pub invariant_of-self-2 : goal.invariant_of-self-2
@@ -30,6 +35,9 @@ invariant_of-self-2 c =
       holds_more split_rows old new c.self.inside.split_lists.items c.parts_by.ensures.grows c.self.invariant.0,
       holds_put part_rows new lists c.put_rows.new.lists.items c.args.number c.in_ok-rows.rows s
           (holds_more part_rows old new lists c.parts_by.ensures.grows c.self.invariant.1) c.put_rows.ensures.others here rows,
+      groups_stay init old new c.self.inside.split_lists.items c.self.inside.split_groups.items c.parts_by.ensures.grows c.self.invariant.2,
+      groups_forgotten tail new c.self.inside.part_lists.items c.put_rows.new.lists.items c.self.inside.part_groups.items c.put_rows.new.groups.items c.args.number c.in_ok-rows.rows
+          (groups_stay tail old new c.self.inside.part_lists.items c.self.inside.part_groups.items c.parts_by.ensures.grows c.self.invariant.3) c.put_rows.ensures.others c.put_rows.ensures.forgotten,
     )
 
 pub returns-clause-grows : goal.returns-clause-grows

@@ -1,16 +1,33 @@
 use Rattle.std.proofs.Common.{◌≡◌, ◌∙◌, [], refl, sym, ap, subst}
 use Rattle.std.specs.List.{AllByRecursion}
-use Rattle.bs_series.specs.SeriesCode.{written_at}
+use Rattle.bs_series.specs.SeriesCode.{Code, IsColouredCode, written_at}
 use Rattle.bs_series.specs.Expressions.{series_at}
+use Rattle.bs_series.specs.Series.{colours_of}
 use Rattle.bs_eval.specs.Values.{AreValues}
 use Rattle.bs_eval.specs.Frames.{IsPlaced}
 use Rattle.bs_eval.specs.declared.memory.Memory.{Memory}
 use Rattle.bs_eval.specs.declared.eval.Eval.{Eval}
 use Rattle.bs_eval.specs.declared.eval.State.TheVariants.{Ended}
-use Rattle.bs_eval.proofs.Memories.{values_grow}
-use Rattle.bs_eval.proofs.Held.{code_is}
-use Rattle.bs_eval.proofs.Answered.{looking, done}
+use Rattle.bs_eval.proofs.Memories.{values_grow, memory_grows}
+use Rattle.bs_eval.proofs.Held.{code_is, number_within}
+use Rattle.bs_eval.proofs.Answered.{looking, done, failed_with}
 use Rattle.bs_eval.proofs.eval.Eval.begin.Goals as goal
+
+pub returns-in_err-tree-clause-answers : goal.returns-in_err-tree-clause-answers
+returns-in_err-tree-clause-answers c = λ tables h.
+    let es = c.args.book.now in
+    let m : Memory = record c.args.memory.now { trees = c.number.new.self } in
+    let e : Eval = record c.args.self.now { state = Ended } in
+    failed_with tables es c.args.self.now.asked m e c.from_residual.result c.from_residual.ensures.0 refl
+    (record { frames = subst (AllByRecursion (IsPlaced es m)) (sym c.requires.first) tt; memory = memory_grows tables es c.args.memory.now m c.number.ensures.grows refl h })
+
+pub known-requires-clause-tree : goal.known-requires-clause-tree
+known-requires-clause-tree c = number_within c.number.new.self.codes c.in_ok-tree.tree c.args.self.now.asked.code c.in_ok-tree.ensures.is
+
+pub known-requires-clause-coloured : goal.known-requires-clause-coloured
+known-requires-clause-coloured c =
+    let p = c.args.self.now.asked in
+    subst (λ (code : Code). IsColouredCode (colours_of (series_at c.args.book.now p.series)) code) (sym (code_is c.number.new.self.codes c.in_ok-tree.tree p.code c.in_ok-tree.ensures.is)) c.requires.coloured
 
 pub returns-in-Some-clause-answers : goal.returns-in-Some-clause-answers
 returns-in-Some-clause-answers c = λ tables h.
