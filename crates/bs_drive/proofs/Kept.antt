@@ -3,7 +3,7 @@ use Rattle.std.proofs.Common.{◌≡◌, ℕ, suc, Bool, true, false, zero, List
 use Rattle.bs_tree.specs.Isomorphic.{isomorphic}
 use Rattle.bs_tree.specs.Code.{tree_of}
 use Rattle.bs_script.specs.Blocks.{ScriptLines}
-use Rattle.bs_session.specs.Names.{at}
+use Rattle.bs_names.specs.Names.{at}
 use Rattle.bs_frac.specs.declared.coef.Coef.{Coef}
 use Rattle.bs_tableau.specs.Table.{Table}
 use Rattle.bs_series.specs.SeriesCode.{Code, written_at}
@@ -11,15 +11,15 @@ use Rattle.bs_series.specs.Expressions.{series_at, Extends}
 use Rattle.bs_alone.specs.Sheet.{Sheet}
 use Rattle.bs_alone.specs.Fits.{Fits}
 use Rattle.bs_alone.proofs.Fitting.{fits-more}
-use Rattle.bs_session.specs.Works.{IsHanded}
+use Rattle.bs_work.specs.Works.{IsHanded}
 use Rattle.bs_session.specs.Machine.{State, plain_of, IsTruthful, IsTruthfulOf, IsTrueOf, Interns, Releases, Compares, Works, IsDone, SaysOn}
 use Rattle.bs_session.specs.declared.asked.Asked.{Asked}
 use Rattle.bs_session.specs.declared.asked.Asked.TheVariants as asked
-use Rattle.bs_session.specs.declared.step.Step.{Step}
-use Rattle.bs_session.specs.declared.step.Step.TheVariants.{Intern, Release, Same, Look, Keep, Done}
-use Rattle.bs_session.specs.declared.live.LiveTree.{LiveTree}
-use Rattle.bs_session.specs.declared.step.Answer.{Answer}
-use Rattle.bs_session.specs.declared.step.Answer.TheVariants.{Go, Found, Missing}
+use Rattle.bs_work.specs.declared.step.Step.{Step}
+use Rattle.bs_work.specs.declared.step.Step.TheVariants.{Intern, Release, Same, Look, Keep, Done}
+use Rattle.bs_names.specs.declared.live.LiveTree.{LiveTree}
+use Rattle.bs_session.specs.declared.answer.Answer.{Answer}
+use Rattle.bs_session.specs.declared.answer.Answer.TheVariants.{Go, Found, Missing}
 use Rattle.bs_session.proofs.Sound.{at_cases}
 use Rattle.bs_drive.specs.Alone.{AreKept, yes_or_no, compared}
 

@@ -19,14 +19,14 @@ use Rattle.bs_eval.specs.Needs.{tree_pair}
 use Rattle.bs_eval.specs.declared.pair.Pair.{Pair}
 use Rattle.bs_session.specs.Needed.{session_need}
 use Rattle.bs_session.specs.Listing.{session_listed}
-use Rattle.bs_session.specs.WorkCounted.{completed_on, work_waited}
+use Rattle.bs_work.specs.WorkCounted.{completed_on, work_waited}
 use Rattle.bs_session.specs.Counted.{waits_by, session_waiting, session_waited, IsTame, Counts}
 use Rattle.bs_session.specs.Machine.{State, Takes, Works, found_of, need_whole}
 use Rattle.bs_session.specs.declared.asked.Asked.{Asked}
 use Rattle.bs_session.specs.declared.asked.Asked.TheVariants as asked
-use Rattle.bs_session.specs.declared.step.Answer.{Answer}
-use Rattle.bs_session.specs.declared.step.Step.{Step}
-use Rattle.bs_session.specs.declared.step.Step.TheVariants.{Look, Keep}
+use Rattle.bs_session.specs.declared.answer.Answer.{Answer}
+use Rattle.bs_work.specs.declared.step.Step.{Step}
+use Rattle.bs_work.specs.declared.step.Step.TheVariants.{Look, Keep}
 use Rattle.bs_session.proofs.Counting.{waited_look, waited_none, waited_found, tame_waited, tame_completes, idle_begun}
 use Rattle.bs_drive.specs.Alone.{yes_or_no, compared_codes, compared}
 use Rattle.bs_drive.specs.Once.{at_tree, IsOf, AreDistinct, IsKept, IsDue, IsOnce, RisesOnce}

@@ -14,14 +14,14 @@ use Rattle.bs_store.specs.Trees.{NamesDecideTrees}
 use Rattle.bs_store.specs.Walks.{hits, Within, Sound, More, Same, Mores}
 use Rattle.bs_store.proofs.Often.{hits_self, often_times, code_is}
 use Rattle.bs_memo.proofs.Taking.{often_at}
-use Rattle.bs_session.specs.Names.{at}
+use Rattle.bs_names.specs.Names.{at}
 use Rattle.bs_session.specs.Machine.{State, AreApart, Interns, Releases, Compares, IsTruthful, IsTrueOf}
 use Rattle.bs_session.specs.declared.asked.Asked.TheVariants as asked
 use Rattle.bs_drive.proofs.Kept.{truthful_by, truthful-as}
-use Rattle.bs_session.specs.declared.live.LiveTree.{LiveTree}
+use Rattle.bs_names.specs.declared.live.LiveTree.{LiveTree}
 use Rattle.bs_session.proofs.Sound.{at_cases}
 use Rattle.std.proofs.lemmas.Bool.{false_from_ne_true}
-use Rattle.bs_session.specs.declared.step.Answer.TheVariants.{Yes, No}
+use Rattle.bs_session.specs.declared.answer.Answer.TheVariants.{Yes, No}
 use Rattle.bs_drive.specs.Alone.{yes_or_no, compared_codes}
 use Rattle.bs_drive.specs.Shared.{held_of, tree_in, code_in, AreHeld, Has, Adds, SameBeside}
 

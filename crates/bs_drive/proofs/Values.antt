@@ -13,10 +13,10 @@ use Rattle.bs_series.specs.Value.{written}
 use Rattle.bs_series.specs.Accepted.{Suits}
 use Rattle.bs_series.specs.Fronts.{IsSameOverFronts}
 use Rattle.bs_series.specs.Expressions.{series_at}
-use Rattle.bs_session.specs.Known.{plain}
+use Rattle.bs_names.specs.Known.{plain}
 use Rattle.bs_session.specs.Machine.{State, session_at, plain_of, Takes}
-use Rattle.bs_session.specs.declared.step.Step.{Step}
-use Rattle.bs_session.specs.declared.step.Step.TheVariants.{Intern, Release, Same, Look, Keep, Done}
+use Rattle.bs_work.specs.declared.step.Step.{Step}
+use Rattle.bs_work.specs.declared.step.Step.TheVariants.{Intern, Release, Same, Look, Keep, Done}
 use Rattle.bs_drive.specs.Shared.{IsFor, SameValues}
 
 -- what is seen is a front of all

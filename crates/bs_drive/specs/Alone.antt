@@ -7,11 +7,11 @@
 use Rattle.std.specs.Prelude.{◌≡◌, ℕ, List, length, Bool, true, false, Option, Some, None, slice_get}
 use Rattle.bs_tree.specs.Isomorphic.{isomorphic}
 use Rattle.bs_tree.specs.Code.{tree_of}
-use Rattle.bs_session.specs.Names.{at}
+use Rattle.bs_names.specs.Names.{at}
 use Rattle.bs_session.specs.Machine.{State}
-use Rattle.bs_session.specs.declared.live.LiveTree.{LiveTree}
-use Rattle.bs_session.specs.declared.step.Answer.{Answer}
-use Rattle.bs_session.specs.declared.step.Answer.TheVariants.{Yes, No}
+use Rattle.bs_names.specs.declared.live.LiveTree.{LiveTree}
+use Rattle.bs_session.specs.declared.answer.Answer.{Answer}
+use Rattle.bs_session.specs.declared.answer.Answer.TheVariants.{Yes, No}
 
 pub record AreKept (codes : List (List (ℕ × ℕ))) (s : State) : Type 0 where
   pub all : length codes ≡ s.interned

@@ -22,11 +22,11 @@ use Rattle.bs_core.specs.Machine.{pair}
 use Rattle.bs_core.specs.Laws.{often}
 use Rattle.bs_core.specs.declared.name.Name.{Name}
 use Rattle.bs_core.specs.declared.table.Held.{Held}
-use Rattle.bs_session.specs.Names.{at}
+use Rattle.bs_names.specs.Names.{at}
 use Rattle.bs_session.specs.Machine.{State}
-use Rattle.bs_session.specs.declared.live.LiveTree.{LiveTree}
-use Rattle.bs_session.specs.declared.step.Step.{Step}
-use Rattle.bs_session.specs.declared.step.Step.TheVariants.{Intern, Release, Same, Look, Keep, Done}
+use Rattle.bs_names.specs.declared.live.LiveTree.{LiveTree}
+use Rattle.bs_work.specs.declared.step.Step.{Step}
+use Rattle.bs_work.specs.declared.step.Step.TheVariants.{Intern, Release, Same, Look, Keep, Done}
 
 -- ---- the places of the trees
 abbrev pub held_of : List (Option Held) → List Held

@@ -16,9 +16,10 @@ ghost use Rattle.bs_drive.specs.Once.{AreDistinct, IsOnce, RisesOnce};
 
 use bs_alone::Sheet;
 use bs_script::Script;
-use bs_session::{Answer, Session, Step};
+use bs_session::{Answer, Session};
 use bs_steps::Steps;
 use bs_tree::Code;
+use bs_work::Step;
 use std::alloc::{AllocError, Global};
 use std::sync::ledger::Ledger;
 

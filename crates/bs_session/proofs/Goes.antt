@@ -8,22 +8,23 @@ use Rattle.bs_tableau.specs.Words.{words}
 use Rattle.bs_script.specs.Blocks.{ScriptLines}
 use Rattle.bs_series.specs.Series.{Series}
 use Rattle.bs_series.specs.Expressions.{Extends}
-use Rattle.bs_session.specs.Known.{Known}
-use Rattle.bs_session.specs.Commands.{Outcome}
-use Rattle.bs_session.specs.Space.{Space, known_of}
-use Rattle.bs_session.specs.Toil.{toil_of}
-use Rattle.bs_session.specs.Works.{IsWork, IsHeldWork, StepsOn, whole_reply, work_left}
-use Rattle.bs_session.specs.Changes.{IsBookOf, Begins}
-use Rattle.bs_session.specs.WorkNeeded.{AreNeeded, NeededOn}
+use Rattle.bs_names.specs.Known.{Known}
+use Rattle.bs_command.specs.Commands.{Outcome}
+use Rattle.bs_names.specs.Space.{Space, known_of}
+use Rattle.bs_command.specs.Toil.{toil_of}
+use Rattle.bs_work.specs.Works.{IsWork, IsHeldWork, StepsOn, whole_reply, work_left}
+use Rattle.bs_names.specs.Space.{IsBookOf}
+use Rattle.bs_command.specs.Changes.{Begins}
+use Rattle.bs_work.specs.WorkNeeded.{AreNeeded, NeededOn}
 use Rattle.bs_session.specs.Machine.{need_here, need_whole, lines_here, lines_left, State, commands_of, plain_of, line_at, outcome_at, said, IsSound, IsAsked, Evaluates, Takes, IsDone, toil_behind, toil_from, left, idle}
 use Rattle.bs_session.specs.Turns.{IsQuiet, GoesOn, accepted}
 use Rattle.bs_session.specs.declared.asked.Asked.{Asked}
 use Rattle.bs_session.specs.declared.asked.Asked.TheVariants as asked
-use Rattle.bs_session.specs.declared.change.Change.TheVariants.{Nothing}
-use Rattle.bs_session.specs.declared.live.LiveTree.{LiveTree}
-use Rattle.bs_session.specs.declared.step.Step.{Step}
-use Rattle.bs_session.specs.declared.step.Step.TheVariants.{Intern, Release, Same, Look, Keep, Done}
-use Rattle.bs_session.specs.declared.work.Work.{Work}
+use Rattle.bs_command.specs.declared.change.Change.TheVariants.{Nothing}
+use Rattle.bs_names.specs.declared.live.LiveTree.{LiveTree}
+use Rattle.bs_work.specs.declared.step.Step.{Step}
+use Rattle.bs_work.specs.declared.step.Step.TheVariants.{Intern, Release, Same, Look, Keep, Done}
+use Rattle.bs_work.specs.declared.work.Work.{Work}
 use Rattle.bs_session.proofs.Needed.{needed-whole}
 use Rattle.bs_session.proofs.Turns.{toil-here}
 use Rattle.bs_session.proofs.Settled.{Goes, goes-settled, left_here, unasked, asked-as, takes-after, settles-nothing}

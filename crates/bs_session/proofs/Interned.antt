@@ -8,14 +8,15 @@ use Rattle.bs_levels.specs.Levels.{tree_of_words, Refusal}
 use Rattle.bs_tableau.specs.Words.{words}
 use Rattle.bs_script.specs.Blocks.{ScriptLines}
 use Rattle.bs_series.specs.Series.{Series, exact, identity, average, method, compose, inverse, adjoint, substitute, modified, modifying, scale, colours_of}
-use Rattle.bs_session.specs.Names.{at}
-use Rattle.bs_session.specs.Known.{Known, Tables, with_tree, without_tree, is_taken, plain, number_of}
-use Rattle.bs_session.specs.Asked.{order_to, colours_to, trees_asked, order_asked, order_shared}
-use Rattle.bs_session.specs.OrderConditions.{trees_reply, conditions_reply, order_reply}
-use Rattle.bs_session.specs.Acceptance.{made_of}
-use Rattle.bs_session.specs.SeriesReplies.{print_reply, equal_reply}
-use Rattle.bs_session.specs.declared.TheConstants.{MAX_CONDITIONS, MAX_COEFF_ORDER}
-use Rattle.bs_session.specs.declared.error.Error.TheVariants.{Taken, Colours, TooLarge}
+use Rattle.bs_names.specs.Names.{at}
+use Rattle.bs_names.specs.Known.{Known, Tables, with_tree, without_tree, is_taken, plain, number_of}
+use Rattle.bs_command.specs.Asked.{order_to, colours_to, trees_asked, order_asked, order_shared}
+use Rattle.bs_order.specs.OrderConditions.{trees_reply, conditions_reply, order_reply}
+use Rattle.bs_command.specs.Acceptance.{made_of}
+use Rattle.bs_work.specs.SeriesReplies.{print_reply, equal_reply}
+use Rattle.bs_order.specs.declared.TheConstants.{MAX_CONDITIONS}
+use Rattle.bs_command.specs.declared.TheConstants.{MAX_COEFF_ORDER}
+use Rattle.bs_command.specs.declared.error.Error.TheVariants.{Taken, Colours, TooLarge}
 use Rattle.bs_listing.specs.Items.{split_reply, partition_reply}
 use Rattle.bs_reply.specs.Lines.{drop_line, weight_line, coeff_line}
 use Rattle.bs_frac.specs.Text.{fraction_of}
@@ -25,24 +26,24 @@ use Rattle.bs_tableau.specs.Table.{Table}
 use Rattle.bs_tableau.specs.WrittenWeight.{written_weight}
 use Rattle.bs_series.specs.Value.{table_at}
 use Rattle.bs_series.specs.SeriesCode.{Code, written_at}
-use Rattle.bs_session.specs.Space.{Space, known_of}
-use Rattle.bs_session.specs.Verbs.{verb_of}
-use Rattle.bs_session.specs.Operations.{operation_of}
-use Rattle.bs_session.specs.Commands.{Outcome, only, two, one_or_two, two_or_three, none_or_one, three, taken, found, asked, tree_made, tree_under, drop_command, same_reply, same_command, info_reply, has_colours, weight_of, weight_command, trees_command, named, under, coloured, scaled, of_colours, of_tableau, of_one, of_two, of_factor, made_by, series_command, coeff_of, coeff_command, print_command, equal_command, command_of, command}
-use Rattle.bs_session.specs.Changes.{known_after, IsApt}
+use Rattle.bs_names.specs.Space.{Space, known_of}
+use Rattle.bs_command.specs.Verbs.{verb_of}
+use Rattle.bs_command.specs.Operations.{operation_of}
+use Rattle.bs_command.specs.Commands.{Outcome, only, two, one_or_two, two_or_three, none_or_one, three, taken, found, asked, tree_made, tree_under, drop_command, same_reply, same_command, info_reply, has_colours, weight_of, weight_command, trees_command, named, under, coloured, scaled, of_colours, of_tableau, of_one, of_two, of_factor, made_by, series_command, coeff_of, coeff_command, print_command, equal_command, command_of, command}
+use Rattle.bs_command.specs.Changes.{known_after, IsApt}
 use Rattle.bs_session.specs.Needed.{Ran, ran, is_accepted, is_tree_verb, is_tree_line, named_if, trees_named}
 use Rattle.bs_session.specs.Machine.{State, tables_of, line_at, outcome_at}
 use Rattle.bs_session.specs.Turns.{Applies, SettlesBy}
 use Rattle.bs_session.proofs.Turns.{taken_by, is_short}
-use Rattle.bs_session.specs.declared.error.Error.{Error}
-use Rattle.bs_session.specs.declared.change.Change.{Change}
-use Rattle.bs_session.specs.declared.change.Change.TheVariants.{Nothing, Name, Drop, Define}
-use Rattle.bs_session.specs.declared.operation.Operation.{Operation}
-use Rattle.bs_session.specs.declared.operation.Operation.TheVariants as operation
-use Rattle.bs_session.specs.declared.step.Step.{Step}
-use Rattle.bs_session.specs.declared.step.Step.TheVariants.{Intern, Release, Same, Look, Keep, Done}
-use Rattle.bs_session.specs.declared.verb.Verb.{Verb}
-use Rattle.bs_session.specs.declared.verb.Verb.TheVariants as verb
+use Rattle.bs_command.specs.declared.error.Error.{Error}
+use Rattle.bs_command.specs.declared.change.Change.{Change}
+use Rattle.bs_command.specs.declared.change.Change.TheVariants.{Nothing, Name, Drop, Define}
+use Rattle.bs_command.specs.declared.operation.Operation.{Operation}
+use Rattle.bs_command.specs.declared.operation.Operation.TheVariants as operation
+use Rattle.bs_work.specs.declared.step.Step.{Step}
+use Rattle.bs_work.specs.declared.step.Step.TheVariants.{Intern, Release, Same, Look, Keep, Done}
+use Rattle.bs_command.specs.declared.verb.Verb.{Verb}
+use Rattle.bs_command.specs.declared.verb.Verb.TheVariants as verb
 
 -- ---- names that get a tree
 -- a free name has got one

@@ -1,19 +1,7 @@
-pub mod Names
-pub mod Listed
-mod TablesSeen
-mod Turns
+pub mod Turns
 pub mod Sound
-mod Settled
-mod Goes
-mod Begun
-mod Meant
-mod Acceptance
-mod Named
-pub mod Orders
-mod Jobs
-mod Reading
-mod Walked
-mod OrderTold
+pub mod Settled
+pub mod Goes
 pub mod Counting
 pub mod Needed
-mod Interned
+pub mod Interned

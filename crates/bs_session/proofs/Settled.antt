@@ -8,30 +8,31 @@ use Rattle.std.proofs.lemmas.Option.{slice_get-get_or, get_or_from_slice_get}
 use Rattle.bs_reply.specs.Lines.{error_line, same_line}
 use Rattle.bs_tree.specs.Isomorphic.{isomorphic}
 use Rattle.bs_tree.specs.Code.{tree_of}
-use Rattle.bs_session.specs.Names.{at, Sets}
-use Rattle.bs_session.specs.Errors.{error_number}
-use Rattle.bs_session.specs.Known.{Known}
-use Rattle.bs_session.specs.Commands.{Outcome, command}
-use Rattle.bs_session.specs.Replies.{tables_seen, session_replies}
+use Rattle.bs_names.specs.Names.{at, Sets}
+use Rattle.bs_command.specs.Errors.{error_number}
+use Rattle.bs_names.specs.Known.{Known}
+use Rattle.bs_command.specs.Commands.{Outcome, command}
+use Rattle.bs_names.specs.Known.{tables_seen}
+use Rattle.bs_session.specs.Replies.{session_replies}
 use Rattle.bs_tableau.specs.Table.{Table}
 use Rattle.bs_series.specs.Series.{Series}
 use Rattle.bs_series.specs.Accepted.{Suits}
-use Rattle.bs_session.specs.Space.{Space, known_of}
-use Rattle.bs_session.specs.Changes.{known_after, IsApt, Says}
+use Rattle.bs_names.specs.Space.{Space, known_of}
+use Rattle.bs_command.specs.Changes.{known_after, IsApt, Says}
 use Rattle.bs_eval.specs.Values.{IsMemory}
 use Rattle.bs_session.specs.Needed.{IsBehind}
 use Rattle.bs_session.specs.Listing.{session_listed}
 use Rattle.bs_session.specs.Machine.{whole_run, run_left, lines_here, lines_left, State, no_session, session_at, commands_of, line_at, outcome_at, said, IsSound, IsAsked, AreNumbered, AreApart, IsTrueOf, is_yes, Takes, IsDone, plain_of, toil_behind, left}
 use Rattle.bs_session.specs.Turns.{Applies, SettlesBy, Settles, IsQuiet, fits, accepted}
 use Rattle.bs_session.specs.declared.TheConstants.{MAX_REPLIES}
-use Rattle.bs_session.specs.declared.error.Error.{Error}
-use Rattle.bs_session.specs.declared.live.LiveTree.{LiveTree}
-use Rattle.bs_session.specs.declared.change.Change.{Change}
-use Rattle.bs_session.specs.declared.change.Change.TheVariants.{Nothing, Name, Drop, Define}
-use Rattle.bs_session.specs.declared.step.Answer.{Answer}
-use Rattle.bs_session.specs.declared.step.Answer.TheVariants.{Go, Yes, No, Found, Missing}
-use Rattle.bs_session.specs.declared.step.Step.{Step}
-use Rattle.bs_session.specs.declared.step.Step.TheVariants.{Intern, Release, Same, Look, Keep, Done}
+use Rattle.bs_command.specs.declared.error.Error.{Error}
+use Rattle.bs_names.specs.declared.live.LiveTree.{LiveTree}
+use Rattle.bs_command.specs.declared.change.Change.{Change}
+use Rattle.bs_command.specs.declared.change.Change.TheVariants.{Nothing, Name, Drop, Define}
+use Rattle.bs_session.specs.declared.answer.Answer.{Answer}
+use Rattle.bs_session.specs.declared.answer.Answer.TheVariants.{Go, Yes, No, Found, Missing}
+use Rattle.bs_work.specs.declared.step.Step.{Step}
+use Rattle.bs_work.specs.declared.step.Step.TheVariants.{Intern, Release, Same, Look, Keep, Done}
 use Rattle.bs_session.specs.declared.asked.Asked.{Asked}
 use Rattle.bs_session.specs.declared.asked.Asked.TheVariants as asked
 use Rattle.bs_session.proofs.Sound.{numbered-named, apart-named, numbered-dropped, apart-dropped}

@@ -3,9 +3,9 @@ use Rattle.std.proofs.Common.{◌≡◌, ◌≢◌, ℕ, suc, ◌+◌, ◌<◌, 
 use Rattle.std.specs.Str.{bytes_eq}
 use Rattle.std.proofs.lemmas.Bool.{cases_Bool}
 use Rattle.std.proofs.lemmas.Slice.Eq.{bytes_eq-Decides}
-use Rattle.bs_session.specs.Names.{at, Sets}
+use Rattle.bs_names.specs.Names.{at, Sets}
 use Rattle.bs_session.specs.Machine.{AreNumbered, AreApart}
-use Rattle.bs_session.specs.declared.live.LiveTree.{LiveTree}
+use Rattle.bs_names.specs.declared.live.LiveTree.{LiveTree}
 
 -- what a name stands for after a change: the new value, or what it stood for
 pub record IsSet (old new : List (List ℕ × LiveTree)) (name other : List ℕ) (set : Option LiveTree) : Type 0 where

@@ -8,29 +8,30 @@ use Rattle.std.proofs.lemmas.List.{append_assoc}
 use Rattle.std.proofs.lemmas.Slice.Eq.{bytes_eq-Decides}
 use Rattle.bs_reply.specs.Lines.{error_line}
 use Rattle.bs_script.specs.Blocks.{ScriptLines}
-use Rattle.bs_session.specs.Names.{at, Sets}
-use Rattle.bs_session.specs.Errors.{error_number}
+use Rattle.bs_names.specs.Names.{at, Sets}
+use Rattle.bs_command.specs.Errors.{error_number}
 use Rattle.bs_series.specs.Series.{Series}
 use Rattle.bs_series.specs.Expressions.{series_at}
-use Rattle.bs_session.specs.Known.{Known, with_tree, without_tree, with_series}
-use Rattle.bs_session.specs.Space.{Space, known_of}
-use Rattle.bs_session.specs.Toil.{toil, toil_of}
+use Rattle.bs_names.specs.Known.{Known, with_tree, without_tree, with_series}
+use Rattle.bs_names.specs.Space.{Space, known_of}
+use Rattle.bs_session.specs.Toil.{toil}
+use Rattle.bs_command.specs.Toil.{toil_of}
 use Rattle.bs_tableau.specs.Words.{words}
-use Rattle.bs_session.specs.Commands.{Outcome}
+use Rattle.bs_command.specs.Commands.{Outcome}
 use Rattle.bs_session.specs.Replies.{Turn, settled, replies}
-use Rattle.bs_session.specs.Changes.{known_after}
+use Rattle.bs_command.specs.Changes.{known_after}
 use Rattle.bs_session.specs.Machine.{State, commands_of, tables_of, line_at, outcome_at, said, toil_behind, toil_from}
 use Rattle.bs_session.specs.declared.asked.Asked.{Asked}
 use Rattle.bs_session.specs.declared.asked.Asked.TheVariants as asked
 use Rattle.bs_session.specs.Turns.{Applies, SettlesBy, Settles, fits, accepted}
 use Rattle.bs_session.specs.declared.TheConstants.{MAX_REPLIES}
-use Rattle.bs_session.specs.declared.error.Error.{Error}
-use Rattle.bs_session.specs.declared.error.Error.TheVariants.{Replies}
-use Rattle.bs_session.specs.declared.live.LiveTree.{LiveTree}
-use Rattle.bs_session.specs.declared.change.Change.{Change}
-use Rattle.bs_session.specs.declared.change.Change.TheVariants.{Nothing, Name, Drop, Define}
-use Rattle.bs_session.specs.declared.step.Step.{Step}
-use Rattle.bs_session.specs.declared.step.Step.TheVariants.{Intern, Release, Same, Look, Keep, Done}
+use Rattle.bs_command.specs.declared.error.Error.{Error}
+use Rattle.bs_command.specs.declared.error.Error.TheVariants.{Replies}
+use Rattle.bs_names.specs.declared.live.LiveTree.{LiveTree}
+use Rattle.bs_command.specs.declared.change.Change.{Change}
+use Rattle.bs_command.specs.declared.change.Change.TheVariants.{Nothing, Name, Drop, Define}
+use Rattle.bs_work.specs.declared.step.Step.{Step}
+use Rattle.bs_work.specs.declared.step.Step.TheVariants.{Intern, Release, Same, Look, Keep, Done}
 
 -- ---- names
 code_of : Option LiveTree → Option (List (ℕ × ℕ))

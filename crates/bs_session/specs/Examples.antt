@@ -11,9 +11,11 @@ use Rattle.bs_series.specs.Series.{Series, method, compose, modifying}
 use Rattle.bs_series.specs.SeriesCode.{Code}
 use Rattle.bs_series.specs.PlanItems.{terms}
 use Rattle.bs_series.specs.Needed.{need}
-use Rattle.bs_session.specs.Commands.{command}
-use Rattle.bs_session.specs.Needed.{need_of, session_need}
-use Rattle.bs_session.specs.Listing.{lines_of, session_listed}
+use Rattle.bs_command.specs.Commands.{command}
+use Rattle.bs_command.specs.Needed.{need_of}
+use Rattle.bs_session.specs.Needed.{session_need}
+use Rattle.bs_command.specs.Listing.{lines_of}
+use Rattle.bs_session.specs.Listing.{session_listed}
 
 -- the explicit Euler method
 abbrev euler : Table

@@ -1,44 +1,15 @@
 -- The lines that the commands of a session list.
 --
---   lines_of known ws       == how many lines the command of these words lists behind the number of them: those of the splittings of a tree, or of
---                              its partitions; no other command lists any
 --   lines_listed r          == those of a command that is carried out, be it accepted or refused for the length of its reply; none where it
 --                              is refused for its words or its name
 --   session_listed script s == HOW MANY LINES a session lists
 --
 -- Source: this project.
-use Rattle.std.specs.Prelude.{ℕ, List, [], ◌∷◌, length, sum_by, Option, Some, None}
-use Rattle.bs_split.specs.Splitting.{split_codes}
-use Rattle.bs_part.specs.Partition.{part_codes}
+use Rattle.std.specs.Prelude.{ℕ, ◌∷◌, sum_by}
 use Rattle.bs_script.specs.Blocks.{ScriptLines, SessionLines}
-use Rattle.bs_session.specs.Known.{Known}
-use Rattle.bs_session.specs.Commands.{only}
 use Rattle.bs_session.specs.Needed.{Ran, session_run}
-use Rattle.bs_session.specs.Verbs.{verb_of}
-use Rattle.bs_session.specs.declared.verb.Verb.{Verb}
-use Rattle.bs_session.specs.declared.verb.Verb.TheVariants.{Split, Partition}
+use Rattle.bs_command.specs.Listing.{lines_of}
 
--- ---- of one command
-abbrev pub lines_found : {X : Type 0} → Option X → (X → ℕ) → ℕ
-lines_found None f = 0
-lines_found (Some x) f = f x
-
-abbrev pub lines_split : Known → List (List ℕ) → ℕ
-lines_split known ws = lines_found (only ws) (λ name. lines_found (known.trees name) (λ code. length (split_codes code)))
-
-abbrev pub lines_parted : Known → List (List ℕ) → ℕ
-lines_parted known ws = lines_found (only ws) (λ name. lines_found (known.trees name) (λ code. length (part_codes code)))
-
-abbrev pub lines_by : Known → Option Verb → List (List ℕ) → ℕ
-lines_by known (Some Split) ws = lines_split known ws
-lines_by known (Some Partition) ws = lines_parted known ws
-lines_by known _ ws = 0
-
-unfoldable pub lines_of : Known → List (List ℕ) → ℕ
-lines_of known [] = 0
-lines_of known (first ∷ more) = lines_by known (verb_of first) more
-
--- ---- of a session
 abbrev pub lines_listed : Ran → ℕ
 lines_listed r = lines_of r.known r.line
 

@@ -28,32 +28,36 @@ use Rattle.bs_tree.specs.Code.{tree_of}
 use Rattle.bs_tableau.specs.Words.{words}
 use Rattle.bs_script.specs.Blocks.{ScriptLines, SessionLines}
 use Rattle.bs_script.specs.declared.TheConstants.{MAX_COMMANDS}
-use Rattle.bs_session.specs.Names.{at, Sets}
+use Rattle.bs_names.specs.Names.{at, Sets}
 use Rattle.bs_frac.specs.declared.coef.Coef.{Coef}
 use Rattle.bs_series.specs.Series.{Series}
 use Rattle.bs_series.specs.Accepted.{Suits}
 use Rattle.bs_tableau.specs.Table.{Table}
 use Rattle.bs_eval.specs.Values.{IsMemory}
 use Rattle.bs_eval.specs.declared.memory.Memory.{Memory}
-use Rattle.bs_session.specs.Known.{Tables, plain}
-use Rattle.bs_session.specs.Commands.{Outcome, command}
-use Rattle.bs_session.specs.Replies.{settled, replies, tables_seen}
-use Rattle.bs_session.specs.Space.{Space, known_of}
-use Rattle.bs_session.specs.Works.{IsWork, IsHeldWork, IsHanded, StepsOn, whole_reply, work_left}
-use Rattle.bs_session.specs.WorkNeeded.{AreNeeded, NeededOn}
+use Rattle.bs_names.specs.Known.{Tables, plain}
+use Rattle.bs_command.specs.Commands.{Outcome, command}
+use Rattle.bs_session.specs.Replies.{settled, replies}
+use Rattle.bs_names.specs.Known.{tables_seen}
+use Rattle.bs_names.specs.Space.{Space, known_of}
+use Rattle.bs_work.specs.Works.{IsWork, IsHeldWork, IsHanded, StepsOn, whole_reply, work_left}
+use Rattle.bs_work.specs.WorkNeeded.{AreNeeded, NeededOn}
 use Rattle.bs_session.specs.Toil.{toil}
-use Rattle.bs_session.specs.Needed.{Ran, run, session_run, session_need, session_trees, need_of, IsBehind}
-use Rattle.bs_session.specs.Listing.{lines_of, lines_listed}
-use Rattle.bs_session.specs.Changes.{IsLive, Asks}
+use Rattle.bs_session.specs.Needed.{Ran, run, session_run, session_need, session_trees, IsBehind}
+use Rattle.bs_command.specs.Needed.{need_of}
+use Rattle.bs_command.specs.Listing.{lines_of}
+use Rattle.bs_session.specs.Listing.{lines_listed}
+use Rattle.bs_names.specs.Space.{IsLive}
+use Rattle.bs_command.specs.Changes.{Asks}
 use Rattle.bs_session.specs.declared.TheConstants.{MAX_REPLIES}
-use Rattle.bs_session.specs.declared.live.LiveTree.{LiveTree}
-use Rattle.bs_session.specs.declared.step.Answer.{Answer}
-use Rattle.bs_session.specs.declared.step.Answer.TheVariants.{Go, Yes, No, Found, Missing}
+use Rattle.bs_names.specs.declared.live.LiveTree.{LiveTree}
+use Rattle.bs_session.specs.declared.answer.Answer.{Answer}
+use Rattle.bs_session.specs.declared.answer.Answer.TheVariants.{Go, Yes, No, Found, Missing}
 use Rattle.bs_session.specs.declared.asked.Asked.{Asked}
 use Rattle.bs_session.specs.declared.asked.Asked.TheVariants as asked
-use Rattle.bs_session.specs.declared.step.Step.{Step}
-use Rattle.bs_session.specs.declared.step.Step.TheVariants.{Intern, Release, Same, Look, Keep, Done}
-use Rattle.bs_session.specs.declared.work.Work.{Work}
+use Rattle.bs_work.specs.declared.step.Step.{Step}
+use Rattle.bs_work.specs.declared.step.Step.TheVariants.{Intern, Release, Same, Look, Keep, Done}
+use Rattle.bs_work.specs.declared.work.Work.{Work}
 
 pub record State : Type 0 where
   pub number : ℕ

@@ -1,9 +1,5 @@
--- The coefficients that the commands of a session need.
+-- The commands of a session as they are carried out, the coefficients that they need, and the trees that they name.
 --
---   need_at s code       == the pairs that the coefficient of s at the tree of a code needs
---   need_to_print s p    == those of the coefficients of s at the trees to order p
---   need_to_compare a b p == those of the comparison of two series to order p
---   need_of known ws     == those of `coeff`, `print` and `equal`, where these are the words of the command; no other command needs any
 --   is_accepted used o   == an outcome is a reply, by which the accepted ones do not become too long where they have `used` bytes before
 --   Ran                  == a command that is carried out: what was known before it, its words, what it answers, and whether that is accepted
 --   run ts known used ls == the commands of the lines, one after another
@@ -15,60 +11,21 @@
 --   IsBehind all left n  == the commands that are left are the last of all, and those before them have named n trees
 --
 -- Source: this project.
-use Rattle.std.specs.Prelude.{◌≡◌, ℕ, ◌+◌, Bool, true, false, cond, nat_le, length, sum_by, List, [], ◌∷◌, ◌++◌, flat_map, Option, Some, None, Result, Ok, Err}
-use Rattle.bs_enum.specs.AllTrees.{trees_up_to}
+use Rattle.std.specs.Prelude.{◌≡◌, ℕ, ◌+◌, Bool, true, false, cond, nat_le, length, sum_by, List, [], ◌∷◌, ◌++◌, flat_map, Option, Some, Ok, Err}
 use Rattle.bs_tree.specs.Tree.{Tree as Shape}
-use Rattle.bs_tree.specs.Code.{tree_of}
 use Rattle.bs_tableau.specs.Words.{words}
 use Rattle.bs_script.specs.Blocks.{ScriptLines, SessionLines}
-use Rattle.bs_series.specs.Series.{Series, colours_of}
-use Rattle.bs_series.specs.SeriesCode.{Code}
-use Rattle.bs_series.specs.Needed.{need}
-use Rattle.bs_session.specs.Known.{Known, Tables, none_known}
-use Rattle.bs_session.specs.Asked.{order_to}
-use Rattle.bs_session.specs.Commands.{Outcome, two, three, command}
-use Rattle.bs_session.specs.Replies.{turn, tables_seen}
-use Rattle.bs_session.specs.Verbs.{verb_of}
+use Rattle.bs_series.specs.Series.{Series}
+use Rattle.bs_names.specs.Known.{Known, Tables, none_known}
+use Rattle.bs_command.specs.Commands.{Outcome, command}
+use Rattle.bs_session.specs.Replies.{turn}
+use Rattle.bs_names.specs.Known.{tables_seen}
+use Rattle.bs_command.specs.Verbs.{verb_of}
 use Rattle.bs_session.specs.declared.TheConstants.{MAX_REPLIES}
-use Rattle.bs_session.specs.declared.number.NumberFault.{NumberFault}
-use Rattle.bs_session.specs.declared.verb.Verb.{Verb}
-use Rattle.bs_session.specs.declared.verb.Verb.TheVariants.{Tree, Coeff, Print, Equal}
+use Rattle.bs_command.specs.declared.verb.Verb.{Verb}
+use Rattle.bs_command.specs.declared.verb.Verb.TheVariants.{Tree}
+use Rattle.bs_command.specs.Needed.{need_of}
 
--- ---- of one command
-abbrev pub need_at : Series → Code → List (Series × Shape)
-need_at s code = need s (tree_of code)
-
-abbrev pub need_both : Series → Series → Code → List (Series × Shape)
-need_both a b code = need_at a code ++ need_at b code
-
-abbrev pub need_to_print : Series → ℕ → List (Series × Shape)
-need_to_print s p = flat_map (need_at s) (trees_up_to p (colours_of s))
-
-abbrev pub need_to_compare : Series → Series → ℕ → List (Series × Shape)
-need_to_compare a b p = flat_map (need_both a b) (trees_up_to p (colours_of a))
-
-abbrev pub need_found : {X : Type 0} → Option X → (X → List (Series × Shape)) → List (Series × Shape)
-need_found None f = []
-need_found (Some x) f = f x
-
-abbrev pub need_to : Result ℕ NumberFault → (ℕ → List (Series × Shape)) → List (Series × Shape)
-need_to (Ok p) f = f p
-need_to (Err fault) f = []
-
-abbrev pub need_by : Known → Option Verb → List (List ℕ) → List (Series × Shape)
-need_by known (Some Coeff) ws =
-    need_found (two ws) (λ w. need_found (known.series w.0) (λ s. need_found (known.trees w.1) (λ code. need_at s code)))
-need_by known (Some Print) ws =
-    need_found (two ws) (λ w. need_found (known.series w.0) (λ s. need_to (order_to w.1) (need_to_print s)))
-need_by known (Some Equal) ws =
-    need_found (three ws) (λ w. need_found (known.series w.0) (λ a. need_found (known.series w.1) (λ b. need_to (order_to w.2) (need_to_compare a b))))
-need_by known _ ws = []
-
-unfoldable pub need_of : Known → List (List ℕ) → List (Series × Shape)
-need_of known [] = []
-need_of known (first ∷ more) = need_by known (verb_of first) more
-
--- ---- of a session
 pub record Ran : Type 0 where
   pub known : Known
   pub line : List (List ℕ)

@@ -11,25 +11,25 @@
 -- Source: this project.
 use Rattle.std.specs.Prelude.{◌≡◌, ℕ, ◌+◌, ◌-◌, ◌<◌, Bool, true, false, List, ◌++◌, length, take, Option, Some, None, IsSomeAnd, nat_le, if◌then◌else◌}
 use Rattle.bs_reply.specs.Lines.{error_line}
-use Rattle.bs_session.specs.Names.{at, Sets}
-use Rattle.bs_session.specs.Errors.{error_number}
+use Rattle.bs_names.specs.Names.{at, Sets}
+use Rattle.bs_command.specs.Errors.{error_number}
 use Rattle.bs_series.specs.Expressions.{series_at}
 use Rattle.bs_eval.specs.Values.{IsMemory}
 use Rattle.bs_eval.specs.declared.memory.Memory.{Memory}
 use Rattle.bs_tableau.specs.Table.{Table}
 use Rattle.bs_series.specs.Series.{Series}
-use Rattle.bs_session.specs.WorkNeeded.{KeepsNeed}
-use Rattle.bs_session.specs.Works.{IsWork, IsHeldWork, StepsOn, whole_reply, work_left}
-use Rattle.bs_session.specs.declared.work.Work.{Work}
+use Rattle.bs_work.specs.WorkNeeded.{KeepsNeed}
+use Rattle.bs_work.specs.Works.{IsWork, IsHeldWork, StepsOn, whole_reply, work_left}
+use Rattle.bs_work.specs.declared.work.Work.{Work}
 use Rattle.bs_session.specs.declared.asked.Asked.TheVariants as asked
 use Rattle.bs_session.specs.Machine.{State}
 use Rattle.bs_session.specs.declared.TheConstants.{MAX_REPLIES}
-use Rattle.bs_session.specs.declared.error.Error.TheVariants.{Replies}
-use Rattle.bs_session.specs.declared.live.LiveTree.{LiveTree}
-use Rattle.bs_session.specs.declared.change.Change.{Change}
-use Rattle.bs_session.specs.declared.change.Change.TheVariants.{Nothing, Name, Drop, Define}
-use Rattle.bs_session.specs.declared.step.Step.{Step}
-use Rattle.bs_session.specs.declared.step.Step.TheVariants.{Intern, Release, Same, Look, Keep, Done}
+use Rattle.bs_command.specs.declared.error.Error.TheVariants.{Replies}
+use Rattle.bs_names.specs.declared.live.LiveTree.{LiveTree}
+use Rattle.bs_command.specs.declared.change.Change.{Change}
+use Rattle.bs_command.specs.declared.change.Change.TheVariants.{Nothing, Name, Drop, Define}
+use Rattle.bs_work.specs.declared.step.Step.{Step}
+use Rattle.bs_work.specs.declared.step.Step.TheVariants.{Intern, Release, Same, Look, Keep, Done}
 
 pub record IsQuiet (old new : State) : Type 0 where
   pub live : new.space.live ≡ old.space.live

@@ -1,6 +1,6 @@
 //! What a session asked last.
 
-use crate::live::LiveTree;
+use bs_names::LiveTree;
 
 /// What the next answer is about.
 #[derive(Clone, Copy)]

@@ -4,7 +4,7 @@ use Rattle.std.specs.Fmt.{digits}
 use Rattle.bs_levels.specs.Words.{number_of}
 use Rattle.bs_script.specs.Grammar.{moved, placed}
 use Rattle.bs_script.specs.declared.reason.Reason.TheVariants.{End}
-use Rattle.bs_session.specs.Commands.{command}
+use Rattle.bs_command.specs.Commands.{command}
 use Rattle.bs_top.specs.Output.{text_of}
 
 nothing : text_of [] ≡ Ok []

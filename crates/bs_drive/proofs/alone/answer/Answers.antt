@@ -1,8 +1,8 @@
 use Rattle.bs_alone.specs.Sheet.{Sheet}
-use Rattle.bs_session.specs.declared.step.Step.TheVariants.{Intern, Release, Same, Done}
+use Rattle.bs_work.specs.declared.step.Step.TheVariants.{Intern, Release, Same, Done}
 use Rattle.std.proofs.Common.{◌≡◌, None, sym, ◌∙◌, ap, subst, inl, inr}
 use Rattle.bs_session.specs.Machine.{IsTruthful}
-use Rattle.bs_session.specs.declared.step.Answer.{Answer}
+use Rattle.bs_session.specs.declared.answer.Answer.{Answer}
 use Rattle.bs_drive.specs.Alone.{compared}
 use Rattle.bs_drive.proofs.Kept.{kept-intern, kept-release, kept-same, truthful-same}
 use Rattle.bs_session.specs.Machine.{found_of}

@@ -3,8 +3,8 @@ use Rattle.bs_series.specs.Series.{Series}
 use Rattle.bs_session.specs.Needed.{session_need}
 use Rattle.bs_session.specs.Listing.{session_listed}
 use Rattle.bs_session.specs.Machine.{session_at, found_of, said, lines_left, Takes, IsDone}
-use Rattle.bs_session.specs.declared.step.Step.{Step}
-use Rattle.bs_session.specs.declared.step.Step.TheVariants.{Done}
+use Rattle.bs_work.specs.declared.step.Step.{Step}
+use Rattle.bs_work.specs.declared.step.Step.TheVariants.{Done}
 use Rattle.bs_drive.proofs.Kept.{said-more, done_is, fits-after}
 use Rattle.bs_drive.specs.Once.{AreDistinct}
 use Rattle.bs_drive.proofs.Once.{first_once, rises_once}

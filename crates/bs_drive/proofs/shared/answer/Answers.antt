@@ -2,8 +2,8 @@ use Rattle.std.proofs.Common.{◌∙◌, None, List, Option, sym, ap, subst}
 use Rattle.bs_core.specs.declared.table.Held.{Held}
 use Rattle.bs_alone.specs.Sheet.{Sheet}
 use Rattle.bs_session.specs.Machine.{IsTruthful, found_of}
-use Rattle.bs_session.specs.declared.step.Answer.{Answer}
-use Rattle.bs_session.specs.declared.step.Step.TheVariants.{Intern, Release, Same, Done}
+use Rattle.bs_session.specs.declared.answer.Answer.{Answer}
+use Rattle.bs_work.specs.declared.step.Step.TheVariants.{Intern, Release, Same, Done}
 use Rattle.bs_drive.specs.Once.{IsOnce}
 use Rattle.bs_drive.specs.Shared.{AreHeld, code_in}
 use Rattle.bs_drive.specs.Alone.{compared_codes}

@@ -1,6 +1,6 @@
 use Rattle.std.proofs.Common.{rules, ◌<◌, ◌≤◌, length, All, false, refl, ap}
 use Rattle.bs_session.specs.Machine.{State}
-use Rattle.bs_session.specs.Space.{Space}
+use Rattle.bs_names.specs.Space.{Space}
 use Rattle.bs_session.specs.declared.asked.Asked.TheVariants as asked
 use Rattle.bs_script.specs.declared.TheConstants.{MAX_COMMANDS}
 use Rattle.bs_session.proofs.Settled.{said-start, lines-start, sound-start}

@@ -2,22 +2,24 @@ use Rattle.std.proofs.Common.{◌≡◌, ℕ, ◌+◌, ◌<◌, List, ◌++◌, 
 use Rattle.bs_reply.specs.Lines.{error_line}
 use Rattle.bs_tableau.specs.Words.{words}
 use Rattle.bs_script.specs.Blocks.{ScriptLines}
-use Rattle.bs_session.specs.Errors.{error_number}
-use Rattle.bs_session.specs.Space.{known_of}
-use Rattle.bs_session.specs.Toil.{toil_of}
-use Rattle.bs_session.specs.Changes.{Says, Begins, Asks, IsBookOf}
-use Rattle.bs_session.specs.Commands.{Outcome}
+use Rattle.bs_command.specs.Errors.{error_number}
+use Rattle.bs_names.specs.Space.{known_of}
+use Rattle.bs_command.specs.Toil.{toil_of}
+use Rattle.bs_command.specs.Changes.{Says, Begins, Asks}
+use Rattle.bs_names.specs.Space.{IsBookOf}
+use Rattle.bs_command.specs.Commands.{Outcome}
 use Rattle.bs_session.specs.Machine.{State, commands_of, outcome_at, line_at, need_here, lines_here, lines_left, plain_of, IsSound}
 use Rattle.bs_session.specs.Turns.{Settles}
 use Rattle.bs_session.specs.declared.asked.Asked.TheVariants as asked
-use Rattle.bs_session.specs.declared.live.LiveTree.{LiveTree}
-use Rattle.bs_session.specs.declared.step.Step.{Step}
-use Rattle.bs_session.specs.declared.step.Step.TheVariants.{Same}
-use Rattle.bs_session.specs.declared.error.Error.{Error}
+use Rattle.bs_names.specs.declared.live.LiveTree.{LiveTree}
+use Rattle.bs_work.specs.declared.step.Step.{Step}
+use Rattle.bs_work.specs.declared.step.Step.TheVariants.{Same}
+use Rattle.bs_command.specs.declared.error.Error.{Error}
 use Rattle.bs_session.proofs.Settled.{goes-settled, goes-refused, asking, sound-asking, map_ok, map_on_ok}
 use Rattle.bs_session.proofs.Goes.{GoesFrom, Alike, takes-alike, goes-from, goes-alike, grown, sound-grown, alike-grown, known-grown, sound-begun, alike-begun}
 use Rattle.bs_session.specs.Counted.{Counts, IsTame}
-use Rattle.bs_session.proofs.Counting.{begun_counts, idle_work, counts_at, quiet_counts, question_counts, settles_tame}
+use Rattle.bs_session.proofs.Counting.{begun_counts, counts_at, quiet_counts, question_counts, settles_tame}
+use Rattle.bs_work.proofs.Counting.{idle_work}
 use Rattle.bs_session.proofs.session.Session.turn.Given.{Over}
 use Rattle.bs_session.proofs.session.Session.turn.Goals as goal
 

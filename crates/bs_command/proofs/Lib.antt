@@ -1,0 +1,4 @@
+pub mod Begun
+pub mod Acceptance
+pub mod Named
+pub mod Reading

@@ -1,0 +1,11 @@
+pub mod Errors
+pub mod Verbs
+pub mod Asked
+pub mod Acceptance
+pub mod Operations
+pub mod Commands
+pub mod Toil
+pub mod Needed
+pub mod Listing
+pub mod Kinds
+pub mod Changes

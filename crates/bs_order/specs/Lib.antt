@@ -1,0 +1,3 @@
+pub mod OrderConditions
+pub mod Behind
+pub mod Laws

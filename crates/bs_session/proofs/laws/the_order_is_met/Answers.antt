@@ -1,5 +1,0 @@
-use Rattle.bs_session.proofs.OrderTold.{order_is_met}
-use Rattle.bs_session.proofs.laws.the_order_is_met.Goals as goal
-
-pub returns : goal.returns
-returns c = order_is_met

@@ -1,5 +1,0 @@
-use Rattle.bs_session.proofs.Orders.{orders-all}
-use Rattle.bs_session.proofs.up_to.UpTo.new.Goals as goal
-
-pub returns-clause-left : goal.returns-clause-left
-returns-clause-left c = orders-all c.args.order c.args.colours
