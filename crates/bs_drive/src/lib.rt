@@ -4,6 +4,8 @@
 mod alone;
 mod recall;
 mod shared;
+#[cfg(test)]
+mod tests;
 mod trees;
 
 pub use alone::run_session_alone;
