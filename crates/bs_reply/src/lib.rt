@@ -8,7 +8,7 @@ mod tests;
 mod verdict;
 mod write;
 
-pub use laws::order_said_is_the_trees;
+pub use laws::{numbers_are_read_alike, order_said_is_the_trees};
 pub use line::{Line, Word};
 pub use verdict::Verdict;
 pub use write::write_line;
