@@ -1,8 +1,10 @@
 -- Rows that are put behind others: one more row, and those of one more row of the first child.
-use Rattle.std.proofs.Common.{◌≡◌, ℕ, zero, suc, ◌+◌, List, [], ◌∷◌, ◌++◌, map, take, drop, length, ◌-◌, ◌≤◌, get_or, Some, slice_get, refl, ap, sym, ◌∙◌, subst, arith, append_assoc, append-nil}
+use Rattle.std.proofs.Common.{◌≡◌, ℕ, zero, suc, ◌+◌, List, [], ◌∷◌, ◌++◌, map, take, drop, length, ◌-◌, ◌≤◌, get_or, Some, slice_get, All, refl, ap, sym, ◌∙◌, subst, arith, append_assoc, append-nil}
 use Rattle.std.specs.List.{flat_map}
 use Rattle.std.proofs.lemmas.List.{map-append, take_all}
 use Rattle.std.proofs.lemmas.Grind.{flat_map-append}
+use Rattle.std.proofs.lemmas.Option.{get_or_from_slice_get, slice_get_within}
+use Rattle.std.proofs.lemmas.List.Elements.{All-get_or}
 use Rattle.bs_catalog.specs.Shelf.{Code, AreNumbers, AreRows}
 use Rattle.bs_catalog.specs.declared.way.Way.{Way}
 use Rattle.bs_catalog.specs.declared.way.Way.TheVariants.{CutOff, Keep, Join, Sever}
@@ -154,11 +156,17 @@ next_row (x ∷ rows) (suc i) row h =
     ap (λ (n : ℕ). take n (x ∷ rows)) e ∙ ap (λ (ys : List (List ℕ)). x ∷ ys) (next_row rows i row h)
 
 -- ---- a row by its first numbers
-pub one_of : (row : List ℕ) → 1 ≤ length row → get_or row 0 0 ∷ take (length row - 1) (drop 1 row) ≡ row
-one_of [] h = absurd (omega arith)
-one_of (x ∷ row) h = ap (λ (ys : List ℕ). x ∷ ys) (take_all (suc (length row) - 1) row (omega arith))
+pub one_of : (x : ℕ) (row rest : List ℕ) → row ≡ x ∷ drop 1 row → rest ≡ drop 1 row → x ∷ rest ≡ row
+one_of x row rest e r = ap (λ (ys : List ℕ). x ∷ ys) r ∙ sym e
 
-pub two_of : (row : List ℕ) → 2 ≤ length row → get_or row 0 0 ∷ (get_or row 1 0 ∷ take (length row - 2) (drop 2 row)) ≡ row
-two_of [] h = absurd (omega arith)
-two_of (x ∷ []) h = absurd (omega arith)
-two_of (x ∷ (y ∷ row)) h = ap (λ (ys : List ℕ). x ∷ (y ∷ ys)) (take_all (suc (suc (length row)) - 2) row (omega arith))
+pub two_of : (x y : ℕ) (row mid rest : List ℕ) → row ≡ x ∷ drop 1 row → mid ≡ drop 1 row → mid ≡ y ∷ drop 1 mid → rest ≡ drop 1 mid → x ∷ (y ∷ rest) ≡ row
+two_of x y row mid rest e m f r = ap (λ (ys : List ℕ). x ∷ ys) (one_of y mid rest f r) ∙ one_of x row mid e m
+
+pub longer_behind : (n : ℕ) (row mid : List ℕ) → suc n ≤ length row → mid ≡ drop 1 row → n ≤ length mid
+longer_behind n [] mid h e = absurd (omega arith)
+longer_behind n (x ∷ row) mid h e = omega (arith, ap length e)
+
+-- ---- rows that are long enough
+pub all_long : {X : Type 0} (P : X → Type 0) (xs : List X) (i : ℕ) (x : X) → All P xs → slice_get xs i ≡ Some x → P x
+all_long {X} P xs i x h e =
+    subst P (get_or_from_slice_get xs i x x e) (All-get_or P xs i x (slice_get_within xs i x e) h)

@@ -1,7 +1,7 @@
 -- Rows of numbers in one list: reading a row, and one more row.
-use Rattle.std.proofs.Common.{◌≡◌, ℕ, zero, suc, ◌-◌, ◌<◌, ◌≤◌, List, [], ◌∷◌, ◌++◌, length, get_or, take, drop, Some, Result, Ok, Err, OnOk, OnErr, slice_get, refl, subst, ap, ap₂, sym, ◌∙◌, arith, length-append}
+use Rattle.std.proofs.Common.{◌≡◌, ℕ, zero, suc, ◌-◌, ◌<◌, ◌≤◌, List, [], ◌∷◌, ◌++◌, length, get_or, take, drop, Some, slice_get, refl, subst, ap, ap₂, sym, ◌∙◌, arith, length-append}
 use Rattle.std.specs.List.{slice_range}
-use Rattle.std.proofs.lemmas.List.{take-append-le, take_all, drop-append-le, length-drop}
+use Rattle.std.proofs.lemmas.List.{take-append-le, take_all, drop-append-le, length-drop, length-take-le, take-append-drop}
 use Rattle.std.proofs.Math.Seq.{drop-append_seam}
 use Rattle.std.proofs.lemmas.Grind.{get_or_default_zero}
 use Rattle.bs_catalog.specs.RowList.{rows_from, Ascends, start_at, last_end}
@@ -61,6 +61,10 @@ rows_longer start (end ∷ ends) pool more h =
     ap (take (end - start)) e1 ∙ take-append-le (end - start) (drop start pool) more le' in
     ap₂ (λ (x : List ℕ) (xs : List (List ℕ)). x ∷ xs) e2 (rows_longer end ends pool more h.1)
 
+ascends_last : (start : ℕ) (ends : List ℕ) (n : ℕ) → Ascends start ends n → Ascends start ends (last_end start ends)
+ascends_last start [] n h = omega arith
+ascends_last start (end ∷ ends) n h = (h.0, ascends_last end ends n h.1)
+
 rows_push : (start : ℕ) (ends pool : List ℕ) (end : ℕ) → rows_from start (ends ++ end ∷ []) pool ≡ rows_from start ends pool ++ slice_range pool (last_end start ends) end ∷ []
 rows_push start [] pool end = refl
 rows_push start (e ∷ ends) pool end = ap (λ (xs : List (List ℕ)). slice_range pool start e ∷ xs) (rows_push e ends pool end)
@@ -84,6 +88,28 @@ pub last_start : (ends : List ℕ) → last_end 0 ends ≡ start_at ends (length
 last_start [] = refl
 last_start (end ∷ ends) = last_from end ends
 
+-- ---- the pool without what stands behind the last row
+pub record IsCutTo (ends pool : List ℕ) (n : ℕ) : Type 0 where
+  pub last : n ≡ last_end 0 ends
+  pub long : length (take n pool) ≡ n
+  pub ascends : Ascends 0 ends n
+  pub same : rows_from 0 ends (take n pool) ≡ rows_from 0 ends pool
+
+cut_to_last : (ends pool : List ℕ) → Ascends 0 ends (length pool) → IsCutTo ends pool (last_end 0 ends)
+cut_to_last ends pool h =
+    let n = last_end 0 ends in
+    let long : length (take n pool) ≡ n = length-take-le n pool (last_within 0 ends (length pool) h) in
+    let ascends = ascends_last 0 ends (length pool) h in record {
+      last = refl;
+      long = long;
+      ascends = ascends;
+      same = sym (ap (rows_from 0 ends) (sym (take-append-drop n pool)) ∙ rows_longer 0 ends (take n pool) (drop n pool) (subst (λ (m : ℕ). Ascends 0 ends m) (sym long) ascends));
+    }
+
+pub cut_to : (ends ends' pool : List ℕ) (len end : ℕ) → Ascends 0 ends (length pool) → ends' ≡ ends → len ≡ length ends → end ≡ start_at ends' len → IsCutTo ends pool end
+cut_to ends ends' pool len end h e l s =
+    subst (IsCutTo ends pool) (last_start ends ∙ sym (s ∙ ap₂ start_at e l)) (cut_to_last ends pool h)
+
 -- ---- as a call reads and puts them
 pub record Reads (view : List (List ℕ)) (pool' : List ℕ) (place start end : ℕ) : Type 0 where
   pub up : start ≤ end
@@ -106,14 +132,10 @@ reads ends pool view ends' pool' place start end v h e p s n lt =
           ∙ ap₂ (λ (a b : ℕ). Some (slice_range pool a b)) (sym es) (sym en) ∙ ap (λ (xs : List ℕ). Some (slice_range xs start end)) (sym p) ∙ ap (λ (xs : List ℕ). Some xs) (sym k);
     }
 
-pub puts : (ends pool : List ℕ) (view : List (List ℕ)) (row ends' pool' : List ℕ) → rows_from 0 ends pool ≡ view → Ascends 0 ends (length pool)
-    → start_at ends (length ends) ≡ length pool → pool' ≡ pool ++ row → ends' ≡ ends ++ length pool' ∷ []
+pub puts : (ends pool : List ℕ) (view : List (List ℕ)) (row ends' pool' : List ℕ) (end : ℕ) → rows_from 0 ends pool ≡ view → IsCutTo ends pool end
+    → pool' ≡ take end pool ++ row → ends' ≡ ends ++ length pool' ∷ []
     → rows_from 0 ends' pool' ≡ view ++ row ∷ []
-puts ends pool view row ends' pool' v h s p e =
+puts ends pool view row ends' pool' end v c p e =
+    let q = take end pool in
     ap₂ (λ (xs ys : List ℕ). rows_from 0 xs ys) (e ∙ ap (λ (xs : List ℕ). ends ++ length xs ∷ []) p) p
-    ∙ one_more_row ends pool row h (last_start ends ∙ s) ∙ ap (λ (rows : List (List ℕ)). rows ++ row ∷ []) v
-
-pub ascends_put : {E : Type 0} (r : Result (Unit {0}) E) (ends ends' : List ℕ) (n m : ℕ) → OnOk r (ends' ≡ ends ++ m ∷ []) → OnErr r (ends' ≡ ends)
-    → Ascends 0 ends n → n ≤ m → Ascends 0 ends' m
-ascends_put (Ok u) ends ends' n m ok err h le = subst (λ (xs : List ℕ). Ascends 0 xs m) (sym ok) (ascends_push 0 ends n m h le)
-ascends_put (Err e) ends ends' n m ok err h le = subst (λ (xs : List ℕ). Ascends 0 xs m) (sym err) (ascends_more 0 ends n m h le)
+    ∙ one_more_row ends q row (subst (λ (m : ℕ). Ascends 0 ends m) (sym c.long) c.ascends) (sym c.last ∙ sym c.long) ∙ ap (λ (rows : List (List ℕ)). rows ++ row ∷ []) (c.same ∙ v)

@@ -1,12 +1,13 @@
 -- Lists of rows by number: what is made stays, and is that of its tree.
-use Rattle.std.proofs.Common.{◌≡◌, ℕ, zero, suc, ◌<◌, List, [], ◌∷◌, map, length, length-append, Some, slice_get, slice_index_or, ◌⊎◌, inl, inr, refl, ap, sym, subst, arith}
-use Rattle.std.specs.List.{flat_map}
+use Rattle.std.proofs.Common.{◌≡◌, ℕ, zero, suc, ◌<◌, ◌≤◌, List, [], ◌∷◌, map, length, All, length-append, Some, slice_get, slice_index_or, ◌⊎◌, inl, inr, refl, ap, sym, subst, arith}
+use Rattle.std.specs.List.{flat_map, AllByRecursion}
+use Rattle.std.proofs.lemmas.List.Elements.{All-nil, All-cons}
 use Rattle.std.proofs.lemmas.List.{length-map}
 use Rattle.bs_tree.specs.Tree.{Forest, none, grow, Tree}
 use Rattle.bs_tree.specs.Code.{tree_of, IsCode, child_codes}
 use Rattle.bs_split.specs.Splitting.{cut_off, keep, cuts}
 use Rattle.bs_part.specs.Partition.{node, Pieces, keep_edge, cut_edge, pieces}
-use Rattle.bs_catalog.specs.Shelf.{Code, Shelf, Numbers, AreRows, split_rows, part_rows, rows_at, Grows}
+use Rattle.bs_catalog.specs.Shelf.{Code, Shelf, Numbers, AreNumbers, AreRows, split_rows, part_rows, rows_at, Grows}
 use Rattle.bs_catalog.specs.Memo.{Extends, HasRows, HoldsRows}
 use Rattle.bs_catalog.specs.Making.{without_first, splits_made, parts_made}
 use Rattle.bs_catalog.proofs.Remembering.{same_code_of}
@@ -130,3 +131,45 @@ some_split_rows cs rows s h = omega (arith, same_length cs rows (split_rows s) h
 
 pub some_part_rows : (cs : List Code) (rows : List (List ℕ)) (s : Code) → AreRows cs rows (part_rows s) → 0 < length rows
 some_part_rows cs rows s h = omega (arith, same_length cs rows (part_rows s) h, some_parts s)
+
+-- ---- rows are long enough
+all_of_map : {A B : Type 0} (P : B → Type 0) (g : A → B) → ((x : A) → P (g x)) → (xs : List A) → AllByRecursion P (map g xs)
+all_of_map P g h [] = tt
+all_of_map P g h (x ∷ xs) = (h x, all_of_map P g h xs)
+
+abbrev pub IsLong : ℕ → List Code → Type 0
+IsLong k r = k ≤ length r
+
+pub long_splits : (s : Code) → AllByRecursion (IsLong 1) (split_rows s)
+long_splits s =
+    let t = tree_of s in
+    subst (AllByRecursion (IsLong 1)) (sym (split_rows_at t s refl)) (all_of_map (IsLong 1) (cut_row t.colour) (λ k. omega arith) (cuts t.below))
+
+pub long_parts : (s : Code) → AllByRecursion (IsLong 2) (part_rows s)
+long_parts s =
+    let t = tree_of s in
+    subst (AllByRecursion (IsLong 2)) (sym (part_rows_at t s refl)) (all_of_map (IsLong 2) (piece_row t.colour) (λ k. omega arith) (pieces t.below))
+
+pub some_long : (rs : List (List Code)) → AllByRecursion (IsLong 2) rs → AllByRecursion (IsLong 1) rs
+some_long [] h = tt
+some_long (r ∷ rs) h = (omega (arith, h.0), some_long rs h.1)
+
+row_length : (cs : List Code) (row : List ℕ) (r : List Code) → AreNumbers cs row r → length row ≡ length r
+row_length cs [] [] h = refl
+row_length cs [] (x ∷ r) h = absurd h
+row_length cs (n ∷ row) [] h = absurd h
+row_length cs (n ∷ row) (x ∷ r) h = ap suc (row_length cs row r h.1)
+
+rows_long : (k : ℕ) (cs : List Code) (rows : List (List ℕ)) (rs : List (List Code)) → AreRows cs rows rs → AllByRecursion (IsLong k) rs → All (λ (row : List ℕ). k ≤ length row) rows
+rows_long k cs [] [] h l = All-nil (λ (row : List ℕ). k ≤ length row)
+rows_long k cs [] (r ∷ rs) h l = absurd h
+rows_long k cs (row ∷ rows) [] h l = absurd h
+rows_long k cs (row ∷ rows) (r ∷ rs) h l =
+    All-cons (λ (row : List ℕ). k ≤ length row) row rows (omega (arith, row_length cs row r h.0, l.0)) (rows_long k cs rows rs h.1 l.1)
+
+-- the rows that a call has read at a number
+pub held_long : (k : ℕ) (f : Code → List (List Code)) → ((s : Code) → AllByRecursion (IsLong k) (f s)) → (cs : List Code) (lists : List (List (List ℕ))) (n : ℕ) (rows : List (List ℕ))
+    → HoldsRows f cs lists → 0 < length (rows_at lists n) → rows ≡ slice_index_or lists n rows → All (λ (row : List ℕ). k ≤ length row) rows
+held_long k f all cs lists n rows h some e =
+    let r = h n some in
+    subst (λ (xs : List (List ℕ)). All (λ (row : List ℕ). k ≤ length row) xs) (read_rows lists n rows e some) (rows_long k cs (rows_at lists n) (f r.code) r.rows_are (all r.code))

@@ -1,6 +1,6 @@
 //! Trees by number, with what is remembered of pairs of them. Contracts see an `Arena` as its list of codes.
 ghost use Rattle.std.specs.Prelude.{◌≡◌, ◌+◌, ◌<◌, ◌≤◌, ◌++◌, ◌∷◌, [], All, length, IfOk, IfSome, OnOk, Some, slice_get};
-ghost use Rattle.bs_tree.specs.Code.{deeper};
+ghost use Rattle.bs_tree.specs.Code.{child_codes, deeper};
 ghost use Rattle.bs_tree.specs.declared.TheConstants.{MAX_NODES};
 ghost use Rattle.bs_catalog.specs.Shelf.{Code as Pair_list, Numbers};
 ghost use Rattle.bs_catalog.specs.Making.{attached, merged, without_first};
@@ -95,19 +95,18 @@ fn merge_code(first: &Code, second: &Code) -> Option<Code>
     Code::of_pairs(pairs.as_slice())
 }
 
-/// The tree without its first child, where it has one.
-pub(crate) fn without_first(code: &Code) -> Option<Code>
-    ensures is { IfSome result (λ rest. rest ≡ without_first code.now) }
-    ensures shorter { IfSome result (λ rest. length rest < length code.now) }
+/// The tree without its first child, which it has.
+pub(crate) fn without_first(code: &Code) -> Code
+    requires { 0 < length (child_codes code.now) }
+    ensures is { result ≡ without_first code.now }
+    ensures shorter { length result < length code.now }
 {
-    if code.order() < 2 {
-        return None;
-    }
+    let _order = code.order();
     let end = code.subtree_end(1);
     let mut pairs = Pairs::new();
     push_all(&mut pairs, &code.pairs()[..1]);
     push_all(&mut pairs, &code.pairs()[end..]);
-    Code::of_pairs(pairs.as_slice())
+    Code::of_level_sequence(pairs.as_slice())
 }
 
 impl Arena {

@@ -196,9 +196,7 @@ impl Catalog {
         if code.arity() == 0 {
             return Ok(None);
         }
-        let Some(later) = without_first(&code) else {
-            return Err(AllocError);
-        };
+        let later = without_first(&code);
         let child = self.number(&code.child(0))?;
         let rest = self.number(&later)?;
         Ok(Some(Halves { child, rest }))
@@ -274,9 +272,7 @@ impl Catalog {
             return self.put_leaf_splits(number, code);
         }
         let first = code.child(0);
-        let Some(later) = without_first(code) else {
-            return Err(AllocError);
-        };
+        let later = without_first(code);
         let child = self.number(&first)?;
         self.shelve_splits(child, &first)?;
         let rest = self.number(&later)?;
@@ -395,9 +391,7 @@ impl Catalog {
             return self.put_leaf_parts(number, code);
         }
         let first = code.child(0);
-        let Some(later) = without_first(code) else {
-            return Err(AllocError);
-        };
+        let later = without_first(code);
         let child = self.number(&first)?;
         self.shelve_parts(child, &first)?;
         let rest = self.number(&later)?;

@@ -1,7 +1,7 @@
 //! Rows with the same first tree and the same forest behind it, gathered.
 //!
 //! A forest has the number of the tree that has it below a root of colour 0: the order of the forest is nothing to that tree.
-ghost use Rattle.std.specs.Prelude.{◌≡◌, ◌<◌, ◌≤◌, ◌+◌, ◌^◌, ◌++◌, ◌∷◌, [], List, length, IfOk, OnOk, IsTrue, slice_range};
+ghost use Rattle.std.specs.Prelude.{All, ◌≡◌, ◌<◌, ◌≤◌, ◌+◌, ◌^◌, ◌++◌, ◌∷◌, [], List, length, IfOk, OnOk, IsTrue, slice_range};
 ghost use Rattle.std.specs.List.{AllByRecursion};
 ghost use Rattle.bs_catalog.specs.Shelf.{Code as Pairs, Numbers, AreNumbers, AreRows};
 ghost use Rattle.bs_catalog.specs.Memo.{Extends};
@@ -10,6 +10,7 @@ ghost use Rattle.bs_catalog.specs.Forests.{IsSequence, AreSequences, IsForest, P
 ghost use Rattle.bs_catalog.specs.declared.gathering.Key.{Key as KeyOfRow};
 
 use crate::arena::Arena;
+use crate::making::{behind, first_of};
 use crate::rows::Rows;
 use bs_tree::Code;
 use std::alloc::{AllocError, Global};
@@ -19,7 +20,7 @@ use std::marker::Model;
 /// that forest, and how often they come.
 #[derive(Clone, Copy)]
 pub struct Gathered {
-    pub row: u32,
+    pub row: usize,
     pub first: u32,
     pub forest: u32,
     pub times: u32,
@@ -30,7 +31,7 @@ pub struct Gathered {
 pub(crate) struct Key {
     first: u32,
     forest: u32,
-    row: u32,
+    row: usize,
 }
 
 /// What is gathered of some rows. Contracts see it as the list of it.
@@ -83,18 +84,16 @@ fn push_key(
     arena: &mut Arena,
     leaf: u32,
     row: &[u32],
-    place: u32,
+    place: usize,
     keys: &mut Vec<Key>,
 ) -> Result<(), AllocError>
-    requires { Numbers arena.old leaf ((1, 0) ∷ []) }
+    requires leaf { Numbers arena.old leaf ((1, 0) ∷ []) }
+    requires some { 1 ≤ length row.now }
     ensures grows { Extends arena.old arena.new }
     ensures put { OnOk result ((codes : List Pairs) → AreNumbers arena.old row.now codes → AllByRecursion IsSequence codes → PutsKey arena.new row.now place keys.old.items keys.new.items) }
 {
-    let [first, trees @ ..] = row else {
-        return Err(AllocError);
-    };
-    let first = *first;
-    let forest = forest_of(arena, leaf, trees)?;
+    let first = first_of(row);
+    let forest = forest_of(arena, leaf, behind(row))?;
     keys.push(Key {
         first,
         forest,
@@ -113,16 +112,14 @@ fn keys_between(
 ) -> Result<Vec<Key>, AllocError>
     requires up { start ≤ end }
     requires within { end ≤ length rows.now }
+    requires some { All (λ row. 1 ≤ length row) rows.now }
     ensures grows { Extends arena.old arena.new }
     ensures are { IfOk result (λ keys. (lists : List (List Pairs)) → AreRows arena.old rows.now lists → AreSequences lists → HasKeys arena.new rows.now (slice_range rows.now start end) keys.items) }
 {
     let leaf = arena.number(&Code::leaf(0))?;
     let mut keys = Vec::new(alloc);
     'rows: for place in start..end {
-        let Ok(at) = u32::try_from(place) else {
-            return Err(AllocError);
-        };
-        push_key(arena, leaf, rows.get(place), at, &mut keys)?;
+        push_key(arena, leaf, rows.get(place), place, &mut keys)?;
     }
     Ok(keys)
 }
@@ -189,6 +186,7 @@ pub(crate) fn gather(
 ) -> Result<Groups, AllocError>
     requires up { start ≤ end }
     requires within { end ≤ length rows.now }
+    requires some { All (λ row. 1 ≤ length row) rows.now }
     ensures grows { Extends arena.old arena.new }
     ensures gathered { IfOk result (λ groups. (lists : List (List Pairs)) → AreRows arena.old rows.now lists → AreSequences lists → AreGathered arena.new rows.now (slice_range rows.now start end) groups) }
 {

@@ -1,15 +1,31 @@
 //! Rows of a tree, made of those of its first child and of those of the tree without that child.
-ghost use Rattle.std.specs.Prelude.{◌≡◌, ◌∷◌, [], List, IfOk, OnOk};
+ghost use Rattle.std.specs.Prelude.{◌≡◌, ◌<◌, ◌≤◌, ◌∷◌, [], List, All, drop, length, IfOk, OnOk};
 ghost use Rattle.bs_catalog.specs.Making.{splits_made, parts_made};
 ghost use Rattle.bs_catalog.specs.Shelf.{Code as Pairs, Numbers, AreRows};
 ghost use Rattle.bs_catalog.specs.Memo.{Extends};
-ghost use Rattle.bs_catalog.specs.Puts.{Puts, PutsUnder, PutsAll};
+ghost use Rattle.bs_catalog.specs.Puts.{AreLong, Puts, PutsUnder, PutsAll};
 
 use crate::arena::Arena;
 use crate::rows::Rows;
 use crate::way::Way;
 use bs_tree::Code;
 use std::alloc::{AllocError, Global};
+
+/// The first number of a row.
+pub(crate) fn first_of(row: &[u32]) -> u32
+    requires { 0 < length row.now }
+    ensures { row.now ≡ result ∷ drop 1 row.now }
+{
+    row[0]
+}
+
+/// The numbers of a row behind the first.
+pub(crate) fn behind(row: &[u32]) -> &[u32]
+    requires { 0 < length row.now }
+    ensures { result.now ≡ drop 1 row.now }
+{
+    &row[1..]
+}
 
 /// The first child is one more tree that is cut off.
 fn push_cut_off(
@@ -18,27 +34,26 @@ fn push_cut_off(
     row: &[u32],
     out: &mut Rows,
 ) -> Result<(), AllocError>
+    requires { AreLong Way.CutOff kept.now row.now }
     ensures grows { Extends arena.old arena.new }
     ensures put { OnOk result (Puts Way.CutOff arena.old arena.new kept.now row.now out.old out.new) }
 {
-    let [head, others @ ..] = row else {
-        return Err(AllocError);
-    };
-    out.push(&[*head], kept, others)
+    let head = first_of(row);
+    let others = behind(row);
+    out.push(&[head], kept, others)
 }
 
 /// What is kept of the first child hangs on what is kept of the rest.
 fn push_kept(arena: &mut Arena, kept: &[u32], row: &[u32], out: &mut Rows) -> Result<(), AllocError>
+    requires { AreLong Way.Keep kept.now row.now }
     ensures grows { Extends arena.old arena.new }
     ensures put { OnOk result (Puts Way.Keep arena.old arena.new kept.now row.now out.old out.new) }
 {
-    let [below, cut @ ..] = kept else {
-        return Err(AllocError);
-    };
-    let [top, others @ ..] = row else {
-        return Err(AllocError);
-    };
-    let head = arena.attach(*top, *below)?;
+    let below = first_of(kept);
+    let cut = behind(kept);
+    let top = first_of(row);
+    let others = behind(row);
+    let head = arena.attach(top, below)?;
     out.push(&[head], cut, others)
 }
 
@@ -49,17 +64,20 @@ fn push_joined(
     row: &[u32],
     out: &mut Rows,
 ) -> Result<(), AllocError>
+    requires { AreLong Way.Join kept.now row.now }
     ensures grows { Extends arena.old arena.new }
     ensures put { OnOk result (Puts Way.Join arena.old arena.new kept.now row.now out.old out.new) }
 {
-    let [hung, below, parts @ ..] = kept else {
-        return Err(AllocError);
-    };
-    let [skeleton, top, others @ ..] = row else {
-        return Err(AllocError);
-    };
-    let merged = arena.merge(*skeleton, *hung)?;
-    let head = arena.attach(*top, *below)?;
+    let hung = first_of(kept);
+    let trees = behind(kept);
+    let below = first_of(trees);
+    let parts = behind(trees);
+    let skeleton = first_of(row);
+    let roots = behind(row);
+    let top = first_of(roots);
+    let others = behind(roots);
+    let merged = arena.merge(skeleton, hung)?;
+    let head = arena.attach(top, below)?;
     out.push(&[merged, head], parts, others)
 }
 
@@ -70,17 +88,18 @@ fn push_severed(
     row: &[u32],
     out: &mut Rows,
 ) -> Result<(), AllocError>
+    requires { AreLong Way.Sever kept.now row.now }
     ensures grows { Extends arena.old arena.new }
     ensures put { OnOk result (Puts Way.Sever arena.old arena.new kept.now row.now out.old out.new) }
 {
-    let [hung, parts @ ..] = kept else {
-        return Err(AllocError);
-    };
-    let [skeleton, top, others @ ..] = row else {
-        return Err(AllocError);
-    };
-    let attached = arena.attach(*skeleton, *hung)?;
-    out.push(&[attached, *top], parts, others)
+    let hung = first_of(kept);
+    let parts = behind(kept);
+    let skeleton = first_of(row);
+    let roots = behind(row);
+    let top = first_of(roots);
+    let others = behind(roots);
+    let attached = arena.attach(skeleton, hung)?;
+    out.push(&[attached, top], parts, others)
 }
 
 /// Puts the row that is made of a row of the first child and a row of the tree without it.
@@ -91,6 +110,7 @@ fn push_made(
     row: &[u32],
     out: &mut Rows,
 ) -> Result<(), AllocError>
+    requires { AreLong way kept.now row.now }
     ensures grows { Extends arena.old arena.new }
     ensures put { OnOk result (Puts way arena.old arena.new kept.now row.now out.old out.new) }
 {
@@ -110,6 +130,7 @@ fn push_under(
     rest: &Rows,
     out: &mut Rows,
 ) -> Result<(), AllocError>
+    requires { All (AreLong way kept.now) rest.now }
     ensures grows { Extends arena.old arena.new }
     ensures put { OnOk result (PutsUnder way arena.old arena.new kept.now rest.now out.old out.new) }
 {
@@ -127,6 +148,7 @@ fn push_all_made(
     rest: &Rows,
     out: &mut Rows,
 ) -> Result<(), AllocError>
+    requires { All (λ kept. All (AreLong way kept) rest.now) kids.now }
     ensures grows { Extends arena.old arena.new }
     ensures put { OnOk result (PutsAll way arena.old arena.new kids.now rest.now out.old out.new) }
 {
@@ -144,6 +166,8 @@ pub(crate) fn splits_by(
     kids: &Rows,
     rest: &Rows,
 ) -> Result<Rows, AllocError>
+    requires kids { All (λ row. 1 ≤ length row) kids.now }
+    requires rest { All (λ row. 1 ≤ length row) rest.now }
     ensures grows { Extends arena.old arena.new }
     ensures rows { IfOk result (λ rows. (x : Pairs) (ks rs : List (List Pairs)) → Numbers arena.old child x → AreRows arena.old kids.now ks → AreRows arena.old rest.now rs → AreRows arena.new rows (splits_made x ks rs)) }
 {
@@ -160,6 +184,8 @@ pub(crate) fn parts_by(
     kids: &Rows,
     rest: &Rows,
 ) -> Result<Rows, AllocError>
+    requires kids { All (λ row. 2 ≤ length row) kids.now }
+    requires rest { All (λ row. 2 ≤ length row) rest.now }
     ensures grows { Extends arena.old arena.new }
     ensures rows { IfOk result (λ rows. (ks rs : List (List Pairs)) → AreRows arena.old kids.now ks → AreRows arena.old rest.now rs → AreRows arena.new rows (parts_made ks rs)) }
 {

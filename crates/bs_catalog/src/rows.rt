@@ -1,6 +1,6 @@
 //! Rows of numbers, kept in one list. Contracts see `Rows` as the list of them.
-ghost use Rattle.std.specs.Prelude.{◌≡◌, ◌<◌, ◌≤◌, ◌++◌, ◌∷◌, [], length, OnOk, OnErr, Some, slice_get, slice_range};
-ghost use Rattle.bs_catalog.specs.RowList.{start_at, last_end};
+ghost use Rattle.std.specs.Prelude.{◌≡◌, ◌<◌, ◌≤◌, ◌++◌, ◌∷◌, [], length, OnOk, Some, slice_get, slice_range};
+ghost use Rattle.bs_catalog.specs.RowList.{start_at};
 
 use std::alloc::{AllocError, Global};
 use std::marker::Model;
@@ -8,7 +8,7 @@ use std::marker::Model;
 /// Rows of numbers, one after the other.
 #[derive(Drop)]
 pub struct Rows {
-    ends: Vec<u32>,
+    ends: Vec<usize>,
     pool: Vec<u32>,
 }
 
@@ -24,15 +24,11 @@ impl Model for Rows {
 }
 
 /// Where the row at this place begins.
-fn start_at(ends: &[u32], place: usize) -> usize
+fn start_at(ends: &[usize], place: usize) -> usize
     requires { place ≤ length ends.now }
     ensures { result ≡ start_at ends.now place }
 {
-    if place == 0 {
-        0
-    } else {
-        ends[place - 1] as usize
-    }
+    if place == 0 { 0 } else { ends[place - 1] }
 }
 
 /// The numbers from one place up to another.
@@ -42,18 +38,6 @@ fn row_between(pool: &[u32], start: usize, end: usize) -> &[u32]
     ensures { result.now ≡ slice_range pool.now start end }
 {
     &pool[start..end]
-}
-
-/// Puts an end last.
-fn push_end(ends: &mut Vec<u32>, end: usize) -> Result<(), AllocError>
-    ensures ok { OnOk result (ends.new.items ≡ ends.old.items ++ end ∷ []) }
-    ensures err { OnErr result (ends.new.items ≡ ends.old.items) }
-{
-    let Ok(end) = u32::try_from(end) else {
-        return Err(AllocError);
-    };
-    ends.push(end)?;
-    Ok(())
 }
 
 /// Appends three slices.
@@ -95,10 +79,11 @@ impl Rows {
         ensures { slice_get self.now place ≡ Some result.now }
     {
         let start = start_at(&self.ends, place);
-        row_between(&self.pool, start, self.ends[place] as usize)
+        row_between(&self.pool, start, self.ends[place])
     }
 
-    /// Puts the row of these numbers last, those of one slice after those of the other. After an error no row can be put.
+    /// Puts the row of these numbers last, those of one slice after those of the other. What an earlier call put behind the last row
+    /// before memory ran out is dropped.
     pub(crate) fn push(
         &mut self,
         first: &[u32],
@@ -107,10 +92,10 @@ impl Rows {
     ) -> Result<(), AllocError>
         ensures { OnOk result (self.new ≡ self.old ++ (first.now ++ (second.now ++ third.now)) ∷ []) }
     {
-        if start_at(&self.ends, self.ends.len()) != self.pool.len() {
-            return Err(AllocError);
-        }
+        let end = start_at(&self.ends, self.ends.len());
+        self.pool.truncate(end);
         append(&mut self.pool, first, second, third)?;
-        push_end(&mut self.ends, self.pool.len())
+        self.ends.push(self.pool.len())?;
+        Ok(())
     }
 }

@@ -229,7 +229,7 @@ impl Leap<'_> {
         requires shown { Shows trees.now.codes self.now.rows.now group.now.row (gathered_key group.now) }
         ensures { (tables : List Table) → AreValues tables book.now trees.now.codes values.old → AreValues tables book.now trees.now.codes values.new }
     {
-        let row = self.rows.get(group.row as usize);
+        let row = self.rows.get(group.row);
         values.keep_product(
             book,
             trees,

@@ -1,4 +1,4 @@
-use Rattle.std.proofs.Common.{◌≡◌, ◌-◌, List, ℕ, [], ◌∷◌, ◌++◌, take, drop, length, get_or, subst}
+use Rattle.std.proofs.Common.{◌≡◌, List, ℕ, [], ◌∷◌, ◌++◌, subst}
 use Rattle.std.proofs.lemmas.Result.{on_ok_weaker}
 use Rattle.bs_catalog.specs.declared.way.Way.TheVariants.{CutOff}
 use Rattle.bs_catalog.specs.Puts.{Puts}
@@ -9,9 +9,10 @@ pub returns-clause-put : goal.returns-clause-put
 returns-clause-put c =
     let kept = c.args.kept.now in
     let row = c.args.row.now in
-    let others = take (length row - 1) (drop 1 row) in
+    let head = c.first_of-head.result in
+    let others = c.behind-others.result.now in
     on_ok_weaker c.push.result
-    (λ (p : c.push.new.self ≡ c.args.out.now ++ (get_or row 0 0 ∷ (kept ++ others)) ∷ []).
-    subst (λ (r : List ℕ). Puts CutOff c.args.arena.now c.args.arena.now kept r c.args.out.now c.push.new.self) (one_of row c.in-len1-up.len_at_least)
-    (put_cut_off c.args.arena.now (get_or row 0 0) kept others c.args.out.now c.push.new.self p))
+    (λ (p : c.push.new.self ≡ c.args.out.now ++ (head ∷ (kept ++ others)) ∷ []).
+    subst (λ (r : List ℕ). Puts CutOff c.args.arena.now c.args.arena.now kept r c.args.out.now c.push.new.self) (one_of head row others c.first_of-head.ensures c.behind-others.ensures)
+    (put_cut_off c.args.arena.now head kept others c.args.out.now c.push.new.self p))
     c.push.ensures

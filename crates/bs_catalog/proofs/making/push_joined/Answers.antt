@@ -1,22 +1,34 @@
-use Rattle.std.proofs.Common.{◌≡◌, ◌-◌, List, ℕ, [], ◌∷◌, ◌++◌, take, drop, length, get_or, subst}
+use Rattle.std.proofs.Common.{◌≡◌, List, ℕ, [], ◌∷◌, ◌++◌, subst}
 use Rattle.std.proofs.lemmas.Result.{on_ok_weaker}
 use Rattle.bs_catalog.specs.declared.way.Way.TheVariants.{Join}
 use Rattle.bs_catalog.specs.Puts.{Puts}
-use Rattle.bs_catalog.proofs.Putting.{put_joined, two_of}
+use Rattle.bs_catalog.proofs.Putting.{put_joined, two_of, longer_behind}
 use Rattle.bs_catalog.proofs.making.push_joined.Goals as goal
+
+pub first_of-below-requires : goal.first_of-below-requires
+first_of-below-requires c = longer_behind 1 c.args.kept.now c.behind-trees.result.now c.requires.0 c.behind-trees.ensures
+
+pub first_of-top-requires : goal.first_of-top-requires
+first_of-top-requires c = longer_behind 1 c.args.row.now c.behind-roots.result.now c.requires.1 c.behind-roots.ensures
 
 pub returns-clause-put : goal.returns-clause-put
 returns-clause-put c =
     let kept = c.args.kept.now in
     let row = c.args.row.now in
-    let parts = take (length kept - 2) (drop 2 kept) in
-    let others = take (length row - 2) (drop 2 row) in
+    let hung = c.first_of-hung.result in
+    let below = c.first_of-below.result in
+    let parts = c.behind-parts.result.now in
+    let skeleton = c.first_of-skeleton.result in
+    let top = c.first_of-top.result in
+    let others = c.behind-others.result.now in
     let old = c.args.arena.now in
     let new = c.attach.new.self in
     on_ok_weaker c.push.result
     (λ (p : c.push.new.self ≡ c.args.out.now ++ (c.in_ok-merged.merged ∷ (c.in_ok-head.head ∷ (parts ++ others))) ∷ []).
-    subst (λ (k : List ℕ). Puts Join old new k row c.args.out.now c.push.new.self) (two_of kept c.in-len2-up.len_at_least)
-    (subst (λ (r : List ℕ). Puts Join old new (get_or kept 0 0 ∷ (get_or kept 1 0 ∷ parts)) r c.args.out.now c.push.new.self) (two_of row c.in-len2-up-row.len_at_least)
-    (put_joined old c.merge.new.self new c.in_ok-merged.merged c.in_ok-head.head (get_or kept 0 0) (get_or kept 1 0) (get_or row 1 0) (get_or row 0 0) parts others c.args.out.now c.push.new.self
+    subst (λ (k : List ℕ). Puts Join old new k row c.args.out.now c.push.new.self)
+    (two_of hung below kept c.behind-trees.result.now parts c.first_of-hung.ensures c.behind-trees.ensures c.first_of-below.ensures c.behind-parts.ensures)
+    (subst (λ (r : List ℕ). Puts Join old new (hung ∷ (below ∷ parts)) r c.args.out.now c.push.new.self)
+    (two_of skeleton top row c.behind-roots.result.now others c.first_of-skeleton.ensures c.behind-roots.ensures c.first_of-top.ensures c.behind-others.ensures)
+    (put_joined old c.merge.new.self new c.in_ok-merged.merged c.in_ok-head.head hung below top skeleton parts others c.args.out.now c.push.new.self
     c.merge.ensures.grows c.attach.ensures.grows c.in_ok-merged.ensures.is c.in_ok-head.ensures.is p)))
     c.push.ensures

@@ -1,7 +1,7 @@
 use Rattle.std.proofs.Common.{List, ℕ, sym, subst, take}
-use Rattle.bs_catalog.specs.Puts.{PutsUnder}
+use Rattle.bs_catalog.specs.Puts.{AreLong, PutsUnder}
 use Rattle.bs_catalog.specs.Memo.{Extends}
-use Rattle.bs_catalog.proofs.Putting.{under_more, next_row}
+use Rattle.bs_catalog.proofs.Putting.{under_more, next_row, all_long}
 use Rattle.bs_catalog.proofs.making.push_under.Goals as goal
 
 pub rest-preserved : goal.rest-preserved
@@ -13,3 +13,6 @@ rest-preserved c =
           (under_more c.args.way c.args.arena.now c.rest.arena c.push_made.new.arena c.args.kept.now (take c.rest.place c.args.rest.now) c.get.result.now c.args.out.now c.rest.out c.push_made.new.out
           c.rest.invariant.0 c.rest.invariant.1 c.in_ok-push_made.ensures.put),
     )
+
+pub push_made-requires : goal.push_made-requires
+push_made-requires c = all_long (AreLong c.args.way c.args.kept.now) c.args.rest.now c.rest.place c.get.result.now c.requires c.get.ensures

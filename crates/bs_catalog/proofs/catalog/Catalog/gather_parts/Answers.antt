@@ -2,7 +2,7 @@ use Rattle.std.proofs.Common.{◌≡◌, ◌<◌, length, slice_range, ap, sym, 
 use Rattle.bs_split.specs.Splitting.{init}
 use Rattle.bs_part.specs.Partition.{tail}
 use Rattle.bs_catalog.specs.Shelf.{Shelf, split_rows, part_rows, rows_at}
-use Rattle.bs_catalog.proofs.Shelving.{holds_more, read_rows}
+use Rattle.bs_catalog.proofs.Shelving.{held_long, some_long, long_parts, holds_more, read_rows}
 use Rattle.bs_catalog.proofs.Grouping.{groups_stay, groups_put, gathered_here, part_sequences, tail_is}
 use Rattle.bs_catalog.proofs.catalog.Catalog.gather_parts.Goals as goal
 
@@ -29,3 +29,8 @@ invariant_of-self-2 c =
       groups_put tail new s.part_lists.items s.part_groups.items c.put_groups.new.groups.items c.args.number c.in_ok-groups.groups
           (groups_stay tail s.arena new s.part_lists.items s.part_groups.items c.gather.ensures.grows c.self.invariant.3) c.put_groups.ensures here,
     )
+
+pub gather-requires-clause-some : goal.gather-requires-clause-some
+gather-requires-clause-some c =
+    let some : 0 < length (rows_at c.self.inside.part_lists.items c.args.number) = subst (λ (shelf : Shelf). 0 < length (rows_at shelf.parts c.args.number)) (sym c.self.view_is) c.requires in
+    held_long 1 part_rows (λ s. some_long (part_rows s) (long_parts s)) c.self.inside.arena c.self.inside.part_lists.items c.args.number c.index-rows.result.now c.self.invariant.1 some c.index-rows.ensures

@@ -2,7 +2,7 @@ use Rattle.std.proofs.Common.{◌≡◌, ◌<◌, ◌-◌, ℕ, length, slice_ra
 use Rattle.bs_split.specs.Splitting.{init}
 use Rattle.bs_part.specs.Partition.{tail}
 use Rattle.bs_catalog.specs.Shelf.{Shelf, split_rows, part_rows, rows_at}
-use Rattle.bs_catalog.proofs.Shelving.{holds_more, read_rows}
+use Rattle.bs_catalog.proofs.Shelving.{held_long, long_splits, holds_more, read_rows}
 use Rattle.bs_catalog.proofs.Grouping.{groups_stay, groups_put, gathered_here, split_sequences, init_is}
 use Rattle.bs_catalog.proofs.catalog.Catalog.gather_splits.Goals as goal
 
@@ -29,3 +29,8 @@ invariant_of-self-2 c =
           (groups_stay init s.arena new s.split_lists.items s.split_groups.items c.gather.ensures.grows c.self.invariant.2) c.put_groups.ensures here,
       groups_stay tail s.arena new s.part_lists.items s.part_groups.items c.gather.ensures.grows c.self.invariant.3,
     )
+
+pub gather-requires-clause-some : goal.gather-requires-clause-some
+gather-requires-clause-some c =
+    let some : 0 < length (rows_at c.self.inside.split_lists.items c.args.number) = subst (λ (shelf : Shelf). 0 < length (rows_at shelf.splits c.args.number)) (sym c.self.view_is) c.requires in
+    held_long 1 split_rows long_splits c.self.inside.arena c.self.inside.split_lists.items c.args.number c.index-rows.result.now c.self.invariant.0 some c.index-rows.ensures

@@ -4,7 +4,7 @@ use Rattle.bs_split.specs.Splitting.{init}
 use Rattle.bs_part.specs.Partition.{tail}
 use Rattle.bs_catalog.specs.Shelf.{Shelf, Numbers, AreRows, split_rows, part_rows, rows_at, Grows}
 use Rattle.bs_catalog.specs.Making.{without_first}
-use Rattle.bs_catalog.proofs.Shelving.{holds_more, holds_put, read_held, part_rows_made, some_part_rows, stays_made}
+use Rattle.bs_catalog.proofs.Shelving.{held_long, long_parts, holds_more, holds_put, read_held, part_rows_made, some_part_rows, stays_made}
 use Rattle.bs_catalog.proofs.Grouping.{groups_stay, groups_forgotten}
 use Rattle.bs_catalog.proofs.catalog.Catalog.put_parts.Goals as goal
 
@@ -82,3 +82,13 @@ returns-clause-made c =
     let some : 0 < length c.in_ok-rows.rows = some_part_rows new c.in_ok-rows.rows s rows in
     on_ok_weaker c.put_rows.result
     (λ (e : rows_at c.put_rows.new.lists.items c.args.number ≡ c.in_ok-rows.rows). subst (λ (xs : List (List ℕ)). 0 < length xs) (sym e) some) c.put_rows.ensures.put
+
+pub parts_by-requires-clause-kids : goal.parts_by-requires-clause-kids
+parts_by-requires-clause-kids c =
+    let some : 0 < length (rows_at c.self.inside.part_lists.items c.args.child) = subst (λ (shelf : Shelf). 0 < length (rows_at shelf.parts c.args.child)) (sym c.self.view_is) c.requires.kids in
+    held_long 2 part_rows long_parts c.self.inside.arena c.self.inside.part_lists.items c.args.child c.index.result.now c.self.invariant.1 some c.index.ensures
+
+pub parts_by-requires-clause-rest : goal.parts_by-requires-clause-rest
+parts_by-requires-clause-rest c =
+    let some : 0 < length (rows_at c.self.inside.part_lists.items c.args.rest) = subst (λ (shelf : Shelf). 0 < length (rows_at shelf.parts c.args.rest)) (sym c.self.view_is) c.requires.others in
+    held_long 2 part_rows long_parts c.self.inside.arena c.self.inside.part_lists.items c.args.rest c.index-2.result.now c.self.invariant.1 some c.index-2.ensures

@@ -4,7 +4,7 @@ use Rattle.bs_split.specs.Splitting.{init}
 use Rattle.bs_part.specs.Partition.{tail}
 use Rattle.bs_catalog.specs.Shelf.{Shelf, Numbers, AreRows, split_rows, part_rows, rows_at, Grows}
 use Rattle.bs_catalog.specs.Making.{without_first}
-use Rattle.bs_catalog.proofs.Shelving.{holds_more, holds_put, read_held, split_rows_made, some_split_rows, stays_made}
+use Rattle.bs_catalog.proofs.Shelving.{held_long, long_splits, holds_more, holds_put, read_held, split_rows_made, some_split_rows, stays_made}
 use Rattle.bs_catalog.proofs.Grouping.{groups_stay, groups_forgotten}
 use Rattle.bs_catalog.proofs.catalog.Catalog.put_splits.Goals as goal
 
@@ -82,3 +82,13 @@ returns-clause-made c =
     let some : 0 < length c.in_ok-rows.rows = some_split_rows new c.in_ok-rows.rows s rows in
     on_ok_weaker c.put_rows.result
     (λ (e : rows_at c.put_rows.new.lists.items c.args.number ≡ c.in_ok-rows.rows). subst (λ (xs : List (List ℕ)). 0 < length xs) (sym e) some) c.put_rows.ensures.put
+
+pub splits_by-requires-clause-kids : goal.splits_by-requires-clause-kids
+splits_by-requires-clause-kids c =
+    let some : 0 < length (rows_at c.self.inside.split_lists.items c.args.child) = subst (λ (shelf : Shelf). 0 < length (rows_at shelf.splits c.args.child)) (sym c.self.view_is) c.requires.kids in
+    held_long 1 split_rows long_splits c.self.inside.arena c.self.inside.split_lists.items c.args.child c.index.result.now c.self.invariant.0 some c.index.ensures
+
+pub splits_by-requires-clause-rest : goal.splits_by-requires-clause-rest
+splits_by-requires-clause-rest c =
+    let some : 0 < length (rows_at c.self.inside.split_lists.items c.args.rest) = subst (λ (shelf : Shelf). 0 < length (rows_at shelf.splits c.args.rest)) (sym c.self.view_is) c.requires.others in
+    held_long 1 split_rows long_splits c.self.inside.arena c.self.inside.split_lists.items c.args.rest c.index-2.result.now c.self.invariant.0 some c.index-2.ensures

@@ -1,27 +1,42 @@
-use Rattle.std.proofs.Common.{◌≡◌, ◌∙◌, ◌++◌, ◌∷◌, [], ◌≤◌, length, ap, ap₂, sym, arith, ℕ, List}
-use Rattle.std.proofs.lemmas.Result.{on_ok_weaker}
-use Rattle.bs_catalog.specs.RowList.{start_at, Ascends}
-use Rattle.bs_catalog.proofs.RowLists.{ascends_more, ascends_put, puts}
+use Rattle.std.proofs.Common.{◌≡◌, ◌∙◌, ◌++◌, ◌∷◌, [], ◌≤◌, length, ap, sym, subst, arith, ℕ, List}
+use Rattle.bs_catalog.specs.RowList.{Ascends}
+use Rattle.bs_catalog.proofs.RowLists.{ascends_more, ascends_push, cut_to, puts}
 use Rattle.bs_catalog.proofs.rows.Rows.push.Goals as goal
 
 pub invariant_of-self : goal.invariant_of-self
-invariant_of-self c = ascends_more 0 c.self.inside.ends.items (length c.self.inside.pool.items) (length c.append.new.pool.items) c.self.invariant c.append.ensures.longer
+invariant_of-self c =
+    let ends = c.self.inside.ends.items in
+    let pool = c.self.inside.pool.items in
+    let cut = cut_to ends c.deref.result.now pool c.len.result c.start_at-end.result c.self.invariant c.deref.ensures.value (omega (arith, c.len.ensures)) c.start_at-end.ensures in
+    let le : c.start_at-end.result ≤ length c.append.new.pool.items = omega (arith, c.append.ensures.longer, cut.long, ap length c.truncate.ensures.items) in
+    ascends_more 0 ends c.start_at-end.result (length c.append.new.pool.items) cut.ascends le
+
+pub invariant_of-self-in_err-push : goal.invariant_of-self-in_err-push
+invariant_of-self-in_err-push c =
+    let ends = c.self.inside.ends.items in
+    let pool = c.self.inside.pool.items in
+    let cut = cut_to ends c.deref.result.now pool c.len.result c.start_at-end.result c.self.invariant c.deref.ensures.value (omega (arith, c.len.ensures)) c.start_at-end.ensures in
+    let le : c.start_at-end.result ≤ length c.append.new.pool.items = omega (arith, c.append.ensures.longer, cut.long, ap length c.truncate.ensures.items) in
+    subst (λ (xs : List ℕ). Ascends 0 xs (length c.append.new.pool.items)) (sym c.in_err-push.ensures.items) (ascends_more 0 ends c.start_at-end.result (length c.append.new.pool.items) cut.ascends le)
 
 pub invariant_of-self-2 : goal.invariant_of-self-2
 invariant_of-self-2 c =
-    let le : length c.self.inside.pool.items ≤ c.len-3.result = omega (arith, c.append.ensures.longer, c.len-3.ensures) in
-    let h : Ascends 0 c.push_end.new.ends.items c.len-3.result =
-    ascends_put c.push_end.result c.self.inside.ends.items c.push_end.new.ends.items (length c.self.inside.pool.items) c.len-3.result c.push_end.ensures.ok c.push_end.ensures.err c.self.invariant le in
-    ascends_more 0 c.push_end.new.ends.items c.len-3.result (length c.append.new.pool.items) h (omega (arith, c.len-3.ensures))
+    let ends = c.self.inside.ends.items in
+    let pool = c.self.inside.pool.items in
+    let cut = cut_to ends c.deref.result.now pool c.len.result c.start_at-end.result c.self.invariant c.deref.ensures.value (omega (arith, c.len.ensures)) c.start_at-end.ensures in
+    let le : c.start_at-end.result ≤ length c.append.new.pool.items = omega (arith, c.append.ensures.longer, cut.long, ap length c.truncate.ensures.items) in
+    let m : c.len-2.result ≡ length c.append.new.pool.items = omega (arith, c.len-2.ensures) in
+    let h : Ascends 0 c.push.new.self.items c.len-2.result =
+    subst (λ (xs : List ℕ). Ascends 0 xs c.len-2.result) (sym c.in_ok-push.ensures.items) (ascends_push 0 ends c.start_at-end.result c.len-2.result cut.ascends (omega (arith, le, m))) in
+    subst (λ (n : ℕ). Ascends 0 c.push.new.self.items n) m h
 
 pub returns : goal.returns
 returns c =
+    let ends = c.self.inside.ends.items in
+    let pool = c.self.inside.pool.items in
     let row = c.args.first.now ++ (c.args.second.now ++ c.args.third.now) in
-    let n : c.len-3.result ≡ length c.append.new.pool.items = omega (arith, c.len-3.ensures) in
-    let full : start_at c.self.inside.ends.items (length c.self.inside.ends.items) ≡ length c.self.inside.pool.items =
-    ap₂ (λ (xs : List ℕ) (m : ℕ). start_at xs m) (sym c.deref.ensures.value) (omega (arith, c.len.ensures)) ∙ sym c.start_at.ensures ∙ omega (arith, c.if-start_at-len.false, c.len-2.ensures) in
-    on_ok_weaker c.push_end.result
-    (λ (e : c.push_end.new.ends.items ≡ c.self.inside.ends.items ++ c.len-3.result ∷ []).
-    puts c.self.inside.ends.items c.self.inside.pool.items _ row c.push_end.new.ends.items c.append.new.pool.items
-    c.self.view_is c.self.invariant full c.in_ok-append.ensures.items (e ∙ ap (λ (m : ℕ). c.self.inside.ends.items ++ m ∷ []) n))
-    c.push_end.ensures.ok
+    let cut = cut_to ends c.deref.result.now pool c.len.result c.start_at-end.result c.self.invariant c.deref.ensures.value (omega (arith, c.len.ensures)) c.start_at-end.ensures in
+    let m : c.len-2.result ≡ length c.append.new.pool.items = omega (arith, c.len-2.ensures) in
+    puts ends pool c.args.self.now row c.push.new.self.items c.append.new.pool.items c.start_at-end.result c.self.view_is cut
+    (c.in_ok-append.ensures.items ∙ ap (λ (q : List ℕ). q ++ row) c.truncate.ensures.items)
+    (c.in_ok-push.ensures.items ∙ ap (λ (n : ℕ). ends ++ n ∷ []) m)
