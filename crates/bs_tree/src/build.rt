@@ -200,7 +200,7 @@ fn tree_under(alloc: Global, pairs: &[(u8, u8)]) -> Result<Tree, AllocError>
     'children: while !rest.is_empty() {
         let (first, later) = rest.split_at(first_count(rest));
         let child = tree_under(alloc, first)?;
-        let Ok(()) = tree.graft(child) else {
+        let Ok(()) = tree.hang(child) else {
             return Err(AllocError);
         };
         rest = later;

@@ -87,16 +87,29 @@ impl Tree {
                 fault: GraftFault::TooLarge,
             });
         }
+        match self.hang(child) {
+            Ok(()) => Ok(()),
+            Err(child) => Err(GraftRefused {
+                child,
+                fault: GraftFault::Memory(AllocError),
+            }),
+        }
+    }
+
+    /// Hangs a child that fits last under the root. Where there is no memory for one more child, it comes back.
+    pub(crate) fn hang(&mut self, child: Tree) -> Result<(), Tree>
+        requires { order self.old + order child ≤ MAX_NODES }
+        ensures ok { OnOk result (self.new ≡ record { colour = self.old.colour; below = forest (trees self.old.below ++ child ∷ []) }) }
+        ensures err { IfErr result (λ refused. (self.new ≡ self.old) × (refused ≡ child)) }
+    {
+        let _ = &child.colour;
         let count = child.order();
         match push_last(&mut self.children, child) {
             Ok(()) => {
                 self.node_count += count;
                 Ok(())
             }
-            Err(child) => Err(GraftRefused {
-                child,
-                fault: GraftFault::Memory(AllocError),
-            }),
+            Err(child) => Err(child),
         }
     }
 

@@ -1,7 +1,7 @@
 use Rattle.std.proofs.Common.{◌≡◌, ap, arith, ◌++◌, ◌∷◌, [], ◌<◌, subst}
 use Rattle.bs_tree.specs.Tree.{Tree, order, Coloured}
 use Rattle.bs_tree.proofs.Trees.{trees-forest, nodes_push, coloured_push}
-use Rattle.bs_tree.proofs.tree.Tree.graft.Goals as goal
+use Rattle.bs_tree.proofs.tree.Tree.hang.Goals as goal
 
 pub invariant_of-self : goal.invariant_of-self
 invariant_of-self c =
