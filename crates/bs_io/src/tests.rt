@@ -41,6 +41,20 @@ impl Write for TakesNothing {
     }
 }
 
+/// A writer whose writes and flushes fail.
+#[derive(Drop)]
+struct FailsAlways;
+
+impl Write for FailsAlways {
+    fn write(&mut self, _: &[u8]) -> io::Result<usize> {
+        Err(ErrorKind::Other.into())
+    }
+
+    fn flush(&mut self) -> io::Result<()> {
+        Err(ErrorKind::Other.into())
+    }
+}
+
 #[test]
 fn the_limit_is_exact(rt: HostRuntime) -> Result<(), Fail> {
     let alloc = rt.alloc();
@@ -120,6 +134,15 @@ fn streams_of_the_system(rt: HostRuntime) -> Result<(), Fail> {
     assert_eq!(rt; write_all(&mut StdSink::new(rt.stdout()), b""), Ok(()));
     assert_eq!(rt; StdSink::new(rt.stderr()).flush(), Ok(()));
     Ok(())
+}
+
+#[test]
+fn a_writer_that_fails(rt: HostRuntime) {
+    let mut sink = StdSink::new(FailsAlways);
+    assert_eq!(rt; sink.write(b"a"), Err(Failed));
+    assert_eq!(rt; sink.write(b""), Err(Failed));
+    assert_eq!(rt; write_all(&mut sink, b"session 1"), Err(Failed));
+    assert_eq!(rt; sink.flush(), Err(Failed));
 }
 
 /// Reads this many bytes in steps of this size; how many came.
