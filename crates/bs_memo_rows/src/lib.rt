@@ -1,5 +1,4 @@
-//! Worked rows of the table of remembered values, as tests alone: what leaves a full table, a table with no room, and four threads at
-//! work.
+//! Worked rows of the table of remembered values, as tests alone: what leaves a full table, and a table with no room.
 #![tactic(auto)]
 
 #[cfg(test)]

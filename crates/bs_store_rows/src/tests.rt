@@ -73,6 +73,25 @@ fn intern_and_release<N: StoreName, R: Wait>(
     Ok(())
 }
 
+/// How often a thread does that.
+const ROUNDS: u32 = 100;
+
+/// The same a hundred times.
+fn many_rounds<N: StoreName, R: Wait>(
+    rt: &R,
+    store: &Store<N>,
+    holder: &mut Holder,
+    codes: &[Code],
+) -> Result<(), AllocError>
+    requires { holder.old.store ≡ store.now.table }
+    ensures { holder.new.store ≡ store.now.table }
+{
+    'rounds: for _ in 0..ROUNDS {
+        intern_and_release(rt, store, holder, codes)?;
+    }
+    Ok(())
+}
+
 /// The same in a thread, and whether memory was left.
 fn works<N: StoreName, R: Wait>(
     rt: &R,
@@ -83,7 +102,7 @@ fn works<N: StoreName, R: Wait>(
     requires { holder.store ≡ store.now.table }
     ensures { result.0.store ≡ store.now.table }
 {
-    let done = intern_and_release(rt, store, &mut holder, codes).is_ok();
+    let done = many_rounds(rt, store, &mut holder, codes).is_ok();
     (holder, done)
 }
 
@@ -141,7 +160,7 @@ fn two_at_work<N: StoreName + Send + Sync, R: Threads + Wait + Abort + Sync>(
 {
     let store = Store::<N>::open(parts)?;
     let (Some(second), Some(first)) = (passes.pop(), passes.pop()) else {
-        return Ok(());
+        return Err("no passes")?;
     };
     let codes = trees(alloc)?;
     assert_eq!(rt; codes.len(), 20);
