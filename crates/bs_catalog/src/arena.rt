@@ -122,6 +122,13 @@ impl Arena {
         }
     }
 
+    /// How many trees there are.
+    pub(crate) fn len(&self) -> usize
+        ensures { result ≡ length self.now }
+    {
+        self.codes.len()
+    }
+
     /// The code of a number.
     pub(crate) fn code(&self, number: u32) -> Code
         requires { number < length self.now }

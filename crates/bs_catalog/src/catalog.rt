@@ -50,6 +50,20 @@ pub struct Halves {
     pub rest: u32,
 }
 
+/// The most numbers that the rows of a catalog have which is kept for another use, and the most of its trees.
+const KEPT_NUMBERS: usize = 1 << 23;
+
+const KEPT_TREES: usize = 1 << 17;
+
+/// How many numbers the rows of these lists have.
+fn numbers_in(lists: &[Rows]) -> usize {
+    let mut numbers: usize = 0;
+    'lists: for rows in lists {
+        numbers = numbers.saturating_add(rows.numbers());
+    }
+    numbers
+}
+
 /// Whether there are rows at a number.
 fn has_rows(lists: &[Rows], number: u32) -> bool
     ensures { IsTrue result ↔ (0 < length (rows_at lists.now number)) }
@@ -151,6 +165,20 @@ impl Catalog {
             split_groups: Vec::new(alloc),
             part_groups: Vec::new(alloc),
         }
+    }
+
+    /// This catalog, or an empty one in its place where it is too large to be kept for another use.
+    pub fn trimmed(self) -> Catalog {
+        if self.is_large() {
+            Catalog::new(self.alloc)
+        } else {
+            self
+        }
+    }
+
+    fn is_large(&self) -> bool {
+        let numbers = numbers_in(&self.split_lists).saturating_add(numbers_in(&self.part_lists));
+        KEPT_NUMBERS < numbers || KEPT_TREES < self.arena.len()
     }
 
     /// The code of a number.

@@ -73,6 +73,11 @@ impl Rows {
         self.ends.len()
     }
 
+    /// How many numbers all rows have, and room for more of them that a refusal left behind.
+    pub(crate) fn numbers(&self) -> usize {
+        self.pool.len()
+    }
+
     /// The row at this place, counted from 0.
     pub fn get(&self, place: usize) -> &[u32]
         requires { place < length self.now }

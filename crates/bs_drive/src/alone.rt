@@ -15,12 +15,14 @@ ghost use Rattle.bs_drive.specs.Alone.{AreKept, compared};
 ghost use Rattle.bs_drive.specs.Once.{AreDistinct, IsOnce, RisesOnce};
 
 use bs_alone::Sheet;
+use bs_catalog::Catalog;
 use bs_script::Script;
 use bs_session::{Answer, Session};
 use bs_steps::Steps;
 use bs_tree::Code;
 use bs_work::Step;
 use std::alloc::{AllocError, Global};
+use std::mem;
 use std::sync::ledger::Ledger;
 
 /// The codes of a session's trees, by their numbers, and its remembered coefficients after a step; and the answer to the step.
@@ -65,7 +67,8 @@ fn compared(codes: &[Code], left: u32, right: u32) -> Answer
 
 /// The replies of a session of the script, sessions counted from 0.
 ///
-/// Takes memory for the session's replies, for its trees and their codes, and for the coefficients that it remembers.
+/// Takes memory for the session's replies, for its trees and their codes, for the coefficients that it remembers, and for the rows of
+/// trees in the catalog, which the next session finds there.
 ///
 /// Counts the terms of the coefficients that it works out, each coefficient once, and the lines of splittings and partitions that it
 /// lists. The making of a tree's rows is not counted.
@@ -73,13 +76,15 @@ pub fn run_session_alone<L: Ledger>(
     alloc: Global,
     script: &Script,
     number: usize,
+    catalog: &mut Catalog,
     steps: &mut Steps<L>,
 ) -> Result<Vec<u8>, AllocError>
     requires { number < length script.now.sessions }
     ensures once { IfOk result (λ _. RisesOnce script.now (session_at script.now number) steps.old steps.new) }
     ensures replies { IfOk result (λ reply. reply.items ≡ session_replies script.now (session_at script.now number)) }
 {
-    let mut session = Session::start(alloc, script, number)?;
+    let made = mem::replace(catalog, Catalog::new(alloc));
+    let mut session = Session::start(alloc, script, number, made)?;
     let mut codes = Vec::new(alloc);
     let mut sheet = Sheet::new(alloc);
     let mut given = Answer::Go;
@@ -88,6 +93,7 @@ pub fn run_session_alone<L: Ledger>(
         session.book().ids_differ();
         given = answer(&mut codes, &mut sheet, &step)?;
         if let Step::Done { reply } = step {
+            *catalog = session.into_trees().trimmed();
             return Ok(reply);
         }
     }

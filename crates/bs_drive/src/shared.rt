@@ -19,6 +19,7 @@ ghost use Rattle.bs_drive.specs.Shared.{held_of, AreHeld, IsFor, SameBeside, Sam
 use crate::recall::{recall, remember};
 use crate::trees::{add, compared, give_all_back, give_back};
 use bs_alone::Sheet;
+use bs_catalog::Catalog;
 use bs_core::Held;
 use bs_memo::{Memo, MemoName};
 use bs_script::Script;
@@ -28,6 +29,7 @@ use bs_steps::Steps;
 use bs_store::{Pass, Store};
 use bs_work::Step;
 use std::alloc::{AllocError, Global};
+use std::mem;
 use std::sync::Wait;
 use std::sync::ledger::Ledger;
 
@@ -91,6 +93,7 @@ fn drive<N: MemoName, L: Ledger, R: Wait>(
     pass: &mut Pass,
     script: &Script,
     number: usize,
+    catalog: &mut Catalog,
     trees: &mut Vec<Option<Held>>,
     steps: &mut Steps<L>,
 ) -> Result<Vec<u8>, AllocError>
@@ -105,7 +108,8 @@ fn drive<N: MemoName, L: Ledger, R: Wait>(
     ensures gains { OnOk result (pass.old.gains + session_trees script.now (session_at script.now number) ≤ pass.new.gains) }
     ensures gains_kept { pass.old.gains ≤ pass.new.gains }
 {
-    let mut session = Session::start(alloc, script, number)?;
+    let made = mem::replace(catalog, Catalog::new(alloc));
+    let mut session = Session::start(alloc, script, number, made)?;
     let mut sheet = Sheet::new(alloc);
     let mut given = Answer::Go;
     'steps: loop {
@@ -115,6 +119,7 @@ fn drive<N: MemoName, L: Ledger, R: Wait>(
         book.serves_longer_lists();
         given = answer(rt, alloc, store, memo, pass, book, trees, &mut sheet, &step)?;
         if let Step::Done { reply } = step {
+            *catalog = session.into_trees().trimmed();
             return Ok(reply);
         }
     }
@@ -122,8 +127,9 @@ fn drive<N: MemoName, L: Ledger, R: Wait>(
 
 /// The replies of a session of the script, sessions counted from 0, over a store and a memo that other threads use too.
 ///
-/// Takes memory for the session's replies, for its trees and their names, and for the coefficients that it remembers. What the pass
-/// gained for the session it has given back at the end, also where memory was wanted.
+/// Takes memory for the session's replies, for its trees and their names, for the coefficients that it remembers, and for the rows of
+/// trees in the catalog, which the next session finds there. What the pass gained for the session it has given back at the end, also
+/// where memory was wanted.
 ///
 /// Counts the terms of the coefficients that it works out, each coefficient once, and the lines of splittings and partitions that it
 /// lists. The making of a tree's rows is not counted.
@@ -135,6 +141,7 @@ pub fn run_session_shared<N: MemoName, L: Ledger, R: Wait>(
     pass: &mut Pass,
     script: &Script,
     number: usize,
+    catalog: &mut Catalog,
     steps: &mut Steps<L>,
 ) -> Result<Vec<u8>, AllocError>
     requires session { number < length script.now.sessions }
@@ -149,7 +156,7 @@ pub fn run_session_shared<N: MemoName, L: Ledger, R: Wait>(
 {
     let mut trees = Vec::new(alloc);
     let reply = drive(
-        rt, alloc, store, memo, pass, script, number, &mut trees, steps,
+        rt, alloc, store, memo, pass, script, number, catalog, &mut trees, steps,
     );
     give_all_back(rt, store, pass, trees);
     reply

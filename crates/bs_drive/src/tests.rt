@@ -8,6 +8,7 @@ ghost use Rattle.std.specs.Prelude.{◌≡◌, ◌<◌, length, IfOk};
 
 use crate::alone::{answer, run_session_alone};
 use bs_alone::Sheet;
+use bs_catalog::Catalog;
 use bs_part::Parts;
 use bs_script::{Script, ScriptFault, read};
 use bs_series::Kind;
@@ -44,7 +45,8 @@ fn replies<L: Ledger>(alloc: Global, script: &Script, blank: Blank) -> Result<Ve
     requires some { 0 < blank.parts }
 {
     let mut steps = Steps::<L>::new(blank);
-    Ok(run_session_alone(alloc, script, 0, &mut steps)?)
+    let mut catalog = Catalog::new(alloc);
+    Ok(run_session_alone(alloc, script, 0, &mut catalog, &mut steps)?)
 }
 
 /// The number of a tree's splittings.
@@ -105,7 +107,7 @@ fn worked_out<L: Ledger>(alloc: Global, script: &Script, blank: Blank) -> Result
     requires some { 0 < blank.parts }
 {
     let mut steps = Steps::<L>::new(blank);
-    let mut session = Session::start(alloc, script, 0)?;
+    let mut session = Session::start(alloc, script, 0, Catalog::new(alloc))?;
     let mut codes = Vec::new(alloc);
     let mut sheet = Sheet::new(alloc);
     let mut given = Answer::Go;

@@ -39,11 +39,23 @@ impl Memory {
     pub fn new(alloc: Global) -> Memory
         ensures { (tables : List Table) (es : List Series) → IsMemory tables es result }
     {
+        Memory::over(alloc, Catalog::new(alloc))
+    }
+
+    /// No values yet, over trees and rows that an earlier memory may have made. Takes no memory.
+    pub fn over(alloc: Global, trees: Catalog) -> Memory
+        ensures { (tables : List Table) (es : List Series) → IsMemory tables es result }
+    {
         Memory {
-            trees: Catalog::new(alloc),
+            trees,
             values: Values::new(alloc),
             weights: TableWeights::new(alloc),
         }
+    }
+
+    /// The trees and their rows, for another memory.
+    pub fn into_trees(self) -> Catalog {
+        self.trees
     }
 
     /// The series and the tree of a pair by number.
@@ -183,6 +195,9 @@ impl Memory {
         ensures grows { Grows self.old.trees self.new.trees }
         ensures values { self.new.values ≡ self.old.values }
     {
+        if self.trees.gathered_splits(tree).is_some() {
+            return;
+        }
         let rows = self.trees.splits(tree);
         if self.values.have_rows(readers, rows, 0, rows.len() - 1) {
             let _done = self.trees.gather_splits(tree);
@@ -195,6 +210,9 @@ impl Memory {
         ensures grows { Grows self.old.trees self.new.trees }
         ensures values { self.new.values ≡ self.old.values }
     {
+        if self.trees.gathered_parts(tree).is_some() {
+            return;
+        }
         let rows = self.trees.parts(tree);
         if self.values.have_rows(readers, rows, 1, rows.len()) {
             let _done = self.trees.gather_parts(tree);

@@ -22,6 +22,7 @@ ghost use Rattle.bs_tableau.specs.Words.{words};
 use crate::MAX_REPLIES;
 use crate::answer::Answer;
 use crate::asked::Asked;
+use bs_catalog::Catalog;
 use bs_command::{Carried, Change, Error, Fault, command};
 use bs_eval::{Memory, TableWeights};
 use bs_frac::Coef;
@@ -92,8 +93,13 @@ fn found_of(answer: Answer) -> Option<Coef>
 }
 
 impl Session {
-    /// A session of the script, sessions counted from 0.
-    pub fn start(alloc: Global, script: &Script, number: usize) -> Result<Session, AllocError>
+    /// A session of the script, sessions counted from 0, over trees and rows that an earlier session may have made.
+    pub fn start(
+        alloc: Global,
+        script: &Script,
+        number: usize,
+        trees: Catalog,
+    ) -> Result<Session, AllocError>
         requires { number < length script.now.sessions }
         ensures said { IfOk result (λ s. said script.now s ≡ session_replies script.now (session_at script.now number)) }
         ensures sound { IfOk result (λ s. IsSound script.now s) }
@@ -113,7 +119,7 @@ impl Session {
             out: Vec::new(alloc),
             asked: Asked::Nothing,
             work: Work::new(alloc),
-            memory: Memory::new(alloc),
+            memory: Memory::over(alloc, trees),
             failed: false,
         })
     }
@@ -123,6 +129,11 @@ impl Session {
         ensures { result.now ≡ self.now.space.book }
     {
         self.names.book()
+    }
+
+    /// The session's trees and their rows, for another session.
+    pub fn into_trees(self) -> Catalog {
+        self.memory.into_trees()
     }
 
     /// The next step, after the answer to the last one.

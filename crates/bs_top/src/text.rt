@@ -8,6 +8,7 @@ ghost use Rattle.bs_workers.specs.Texts.{session_text};
 ghost use Rattle.bs_top.specs.Output.{text_of, sessions_text};
 ghost use Rattle.bs_top.specs.Run.{Answers, joined};
 
+use bs_catalog::Catalog;
 use bs_drive::run_session_alone;
 use bs_pool::Gate;
 use bs_reply::{Line, write_line};
@@ -60,9 +61,10 @@ fn write_sessions<L: Ledger>(
     ensures { IfOk result (λ texts. joined texts.items ≡ sessions_text script.now 0 script.now.sessions) }
 {
     let mut steps = Steps::<L>::new(blank);
+    let mut catalog = Catalog::new(alloc);
     let mut texts = Vec::new(alloc);
     'sessions: for number in 0..script.sessions().len() {
-        texts.push(write_session(alloc, script, number, &mut steps)?)?;
+        texts.push(write_session(alloc, script, number, &mut catalog, &mut steps)?)?;
     }
     Ok(texts)
 }
@@ -72,6 +74,7 @@ fn write_session<L: Ledger>(
     alloc: Global,
     script: &Script,
     number: usize,
+    catalog: &mut Catalog,
     steps: &mut Steps<L>,
 ) -> Result<Vec<u8>, AllocError>
     requires { number < length script.now.sessions }
@@ -85,7 +88,7 @@ fn write_session<L: Ledger>(
             number: number as u64 + 1,
         },
     )?;
-    let replies = run_session_alone(alloc, script, number, steps)?;
+    let replies = run_session_alone(alloc, script, number, catalog, steps)?;
     text.extend_from_slice(&replies)?;
     Ok(text)
 }

@@ -6,6 +6,7 @@ ghost use Rattle.std.specs.Prelude.{◌≡◌, ◌<◌, length, IfOk};
 ghost use Rattle.bs_store.specs.Walks.{Same, SamePass};
 ghost use Rattle.bs_workers.specs.Texts.{text_at};
 
+use bs_catalog::Catalog;
 use bs_drive::run_session_shared;
 use bs_memo::{Memo, MemoName};
 use bs_pool::Work;
@@ -15,8 +16,8 @@ use bs_steps::Steps;
 use bs_store::{Pass, Store};
 use std::alloc::{AllocError, Global};
 use std::marker::Brand;
-use std::sync::Wait;
 use std::sync::ledger::{Blank, Ledger};
+use std::sync::{Mutex, Wait};
 
 /// The sessions of a script, and what all workers share.
 #[derive(Drop)]
@@ -25,6 +26,7 @@ pub(crate) struct Sessions<'w, 't, N: MemoName> {
     pub(crate) store: &'w Store<N>,
     pub(crate) memo: &'w Memo<'t, N>,
     pub(crate) script: &'w Script,
+    pub(crate) shelf: &'w Mutex<Vec<Catalog>>,
     ghost tables: { script.now.tables ≡ N.tables },
 }
 
@@ -50,6 +52,21 @@ impl<'w, 't, N: MemoName + Send + Sync> Work for Sessions<'w, 't, N> {
             Ok(Vec::new(self.alloc))
         }
     }
+}
+
+/// A catalog that an earlier session left, or an empty one.
+fn take_catalog<R: Wait>(rt: &R, alloc: Global, shelf: &Mutex<Vec<Catalog>>) -> Catalog {
+    let mut catalogs = shelf.lock(rt);
+    match catalogs.pop() {
+        Some(catalog) => catalog,
+        None => Catalog::new(alloc),
+    }
+}
+
+/// Leaves a catalog for a later session, unless memory is wanted.
+fn leave_catalog<R: Wait>(rt: &R, shelf: &Mutex<Vec<Catalog>>, catalog: Catalog) {
+    let mut catalogs = shelf.lock(rt);
+    let _left = catalogs.push(catalog);
 }
 
 /// The head and the replies of a session, sessions counted from 0.
@@ -78,6 +95,7 @@ fn write_session<N: MemoName, L: Ledger, R: Wait>(
             number: number as u64 + 1,
         },
     )?;
+    let mut catalog = take_catalog(rt, work.alloc, work.shelf);
     let replies = run_session_shared(
         rt,
         work.alloc,
@@ -86,8 +104,10 @@ fn write_session<N: MemoName, L: Ledger, R: Wait>(
         pass,
         work.script,
         number,
+        &mut catalog,
         &mut steps,
     )?;
+    leave_catalog(rt, work.shelf, catalog);
     text.extend_from_slice(&replies)?;
     Ok(text)
 }

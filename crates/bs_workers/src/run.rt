@@ -15,7 +15,7 @@ use bs_store::laws::passes_have_all_numbers;
 use bs_store::{Pass, Store, StoreParts};
 use std::alloc::{AllocError, Global};
 use std::marker::Brand;
-use std::sync::Wait;
+use std::sync::{Mutex, Wait};
 use std::thread::Threads;
 
 /// The most workers.
@@ -77,11 +77,13 @@ fn run_shared<N: MemoName + Send + Sync, G: Gate, R: Threads + Wait + Sync>(
             return Err(refused.fault);
         }
     };
+    let shelf = Mutex::new(Vec::new(alloc));
     let work = Sessions {
         alloc,
         store: &store,
         memo: &memo,
         script,
+        shelf: &shelf,
     };
     let (passes, texts) = run_jobs(rt, alloc, &work, gate, passes, script.sessions().len());
     gate.ended(memo.found(rt));

@@ -17,7 +17,7 @@ returns-clause-said c =
       out = c.new-3.result.items;
       asked = asked.Nothing;
       work = c.new-4.result;
-      memory = c.new-5.result;
+      memory = c.over.result;
       failed = false;
     } in
     said-start c.args.script.now s refl refl c.new-3.ensures.items (ap (λ (x : Space). x.live) c.new.ensures) (ap (λ (x : Space). x.series) c.new.ensures)
@@ -33,7 +33,7 @@ returns-clause-lines c =
       out = c.new-3.result.items;
       asked = asked.Nothing;
       work = c.new-4.result;
-      memory = c.new-5.result;
+      memory = c.over.result;
       failed = false;
     } in
     lines-start c.args.script.now s refl refl (ap (λ (x : Space). x.live) c.new.ensures) (ap (λ (x : Space). x.series) c.new.ensures)
@@ -49,9 +49,9 @@ returns-clause-sound c =
       out = c.new-3.result.items;
       asked = asked.Nothing;
       work = c.new-4.result;
-      memory = c.new-5.result;
+      memory = c.over.result;
       failed = false;
     } in
     let few : All (λ x. length x.commands ≤ MAX_COMMANDS) c.args.script.now.sessions = search rules in
     let here : c.args.number < length c.args.script.now.sessions = search rules in
-    sound-start c.args.script.now s few here refl refl refl (ap (λ (x : Space). x.live) c.new.ensures) (ap (λ (x : Space). x.series) c.new.ensures) (ap (λ (x : Space). x.book) c.new.ensures) c.new-5.ensures refl
+    sound-start c.args.script.now s few here refl refl refl (ap (λ (x : Space). x.live) c.new.ensures) (ap (λ (x : Space). x.series) c.new.ensures) (ap (λ (x : Space). x.book) c.new.ensures) c.over.ensures refl
